@@ -1,0 +1,13 @@
+-- Maximum and minimum "yield the other operand where one is NaN, and of −0 and 0 the first".
+use mathlib.Core.Bool.{Bool, cond}
+use lib.Ieee.{Float, isNan, lt}
+
+-- the other operand where one is NaN, else the second where the test says so, else the first
+unfoldable pub chosenOf : Bool → Float → Float → Float
+chosenOf second x y = cond (isNan x) y (cond (isNan y) x (cond second y x))
+
+abbrev pub maximumOf : Float → Float → Float
+maximumOf x y = chosenOf (lt x y) x y
+
+abbrev pub minimumOf : Float → Float → Float
+minimumOf x y = chosenOf (lt y x) x y

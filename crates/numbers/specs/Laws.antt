@@ -1,0 +1,9 @@
+-- Laws about floats and digits that every layer cites.
+pub mod Kinds
+pub mod Order
+pub mod NotNan
+pub mod Extremes
+pub mod Sign
+pub mod Values
+pub mod Sums
+pub mod Whole

@@ -1,0 +1,22 @@
+-- A maximum or a minimum is one of its operands, and which one.
+use mathlib.Core.Path.{_≡_, refl, ap, _∙_}
+use mathlib.Core.Bool.{Bool, true, false, cond, true≢false}
+use lib.Dec.{T}
+use lib.Ieee.{Float, nan, inf, fin, isNan, lt, ne}
+use Rattle.numbers.specs.Extremes.{chosenOf}
+use Rattle.numbers.specs.Laws.Kinds.{Number, number-is}
+use Rattle.numbers.specs.Laws.NotNan.{cond-has}
+
+-- what holds of both operands holds of the one chosen
+pub chosen-has : (P : Float → Type 0) (b : Bool) {x y : Float} → P x → P y → P (chosenOf b x y)
+unfolding chosenOf
+chosen-has P b {x} {y} p q = cond-has P (isNan x) q (cond-has P (isNan y) p (cond-has P b q p))
+
+-- of two numbers the test alone decides
+pub chosen-number : (b : Bool) {x y : Float} → Number x → Number y → chosenOf b x y ≡ cond b y x
+unfolding chosenOf
+chosen-number b p q = rw (number-is p, number-is q)
+
+pub chosen-nan : (b : Bool) (y : Float) → chosenOf b nan y ≡ y
+unfolding chosenOf isNan
+chosen-nan b y = refl

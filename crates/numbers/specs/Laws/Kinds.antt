@@ -1,0 +1,79 @@
+-- What kind of value a float is: a number, finite, with a clear sign bit. A law matches on the kind, and so meets only the cases that it allows.
+use mathlib.Core.Path.{_≡_, refl, sym}
+use mathlib.Core.Bool.{Bool, true, false, not, true≢false}
+use Prim.Native.Nat.{ℕ}
+use lib.Dec.{T}
+use lib.IntN.{ℤ}
+use lib.Ieee.{Float, nan, inf, fin, isNan, ne, lt}
+use lib.Ieee.Scale.{finite}
+use Rattle.numbers.specs.Instant.{signBit}
+
+-- no NaN
+pub data Number : Float → Type 0 where
+  number-inf : (s : Bool) → Number (inf s)
+  number-fin : (s : Bool) (m : ℕ) (e : ℤ) → Number (fin s m e)
+
+-- neither NaN nor infinite
+pub data Finite : Float → Type 0 where
+  finite-fin : (s : Bool) (m : ℕ) (e : ℤ) → Finite (fin s m e)
+
+-- a number whose sign bit is clear
+pub data Plus : Float → Type 0 where
+  plus-inf : Plus (inf false)
+  plus-fin : (m : ℕ) (e : ℤ) → Plus (fin false m e)
+
+-- a finite number whose sign bit is clear
+pub data PlusFinite : Float → Type 0 where
+  plus-finite : (m : ℕ) (e : ℤ) → PlusFinite (fin false m e)
+
+pub number-of : (x : Float) → T (not (isNan x)) → Number x
+unfolding isNan
+number-of nan h = absurd h
+number-of (inf s) h = number-inf s
+number-of (fin s m e) h = number-fin s m e
+
+pub number-is : {x : Float} → Number x → isNan x ≡ false
+unfolding isNan
+number-is (number-inf s) = refl
+number-is (number-fin s m e) = refl
+
+pub plus-of : {x : Float} → Number x → signBit x ≡ false → Plus x
+plus-of (number-inf true) h = absurd (true≢false h)
+plus-of (number-inf false) h = plus-inf
+plus-of (number-fin true m e) h = absurd (true≢false h)
+plus-of (number-fin false m e) h = plus-fin m e
+
+pub plus-finite-of : {x : Float} → Plus x → T (finite x) → PlusFinite x
+plus-finite-of plus-inf h = absurd h
+plus-finite-of (plus-fin m e) h = plus-finite m e
+
+pub finite-number : {x : Float} → Finite x → Number x
+finite-number (finite-fin s m e) = number-fin s m e
+
+pub plus-number : {x : Float} → Plus x → Number x
+plus-number plus-inf = number-inf false
+plus-number (plus-fin m e) = number-fin false m e
+
+pub plus-finite-finite : {x : Float} → PlusFinite x → Finite x
+plus-finite-finite (plus-finite m e) = finite-fin false m e
+
+pub plus-finite-plus : {x : Float} → PlusFinite x → Plus x
+plus-finite-plus (plus-finite m e) = plus-fin m e
+
+-- only a NaN differs from itself
+pub same-number-of : (x : Float) → ne x x ≡ false → Number x
+unfolding ne
+same-number-of nan h = absurd (true≢false h)
+same-number-of (inf s) h = number-inf s
+same-number-of (fin s m e) h = number-fin s m e
+
+-- what is compared and found less is a number, and so is what it is less than
+pub lt-numbers : (x y : Float) → lt x y ≡ true → Number x × Number y
+unfolding lt
+lt-numbers nan y h = absurd (true≢false (sym h))
+lt-numbers (inf s) nan h = absurd (true≢false (sym h))
+lt-numbers (inf s) (inf t) h = (number-inf s, number-inf t)
+lt-numbers (inf s) (fin t n g) h = (number-inf s, number-fin t n g)
+lt-numbers (fin s m e) nan h = absurd (true≢false (sym h))
+lt-numbers (fin s m e) (inf t) h = (number-fin s m e, number-inf t)
+lt-numbers (fin s m e) (fin t n g) h = (number-fin s m e, number-fin t n g)

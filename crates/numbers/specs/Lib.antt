@@ -1,0 +1,4 @@
+pub mod Wrapping
+pub mod Extremes
+pub mod Instant
+pub mod Laws
