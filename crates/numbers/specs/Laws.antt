@@ -6,4 +6,6 @@ pub mod Extremes
 pub mod Sign
 pub mod Values
 pub mod Sums
+pub mod Products
+pub mod Digits
 pub mod Whole

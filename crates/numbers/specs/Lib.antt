@@ -1,4 +1,5 @@
 pub mod Wrapping
 pub mod Extremes
 pub mod Instant
+pub mod Digits
 pub mod Laws

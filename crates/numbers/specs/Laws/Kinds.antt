@@ -5,6 +5,7 @@ use Prim.Native.Nat.{ℕ}
 use lib.Dec.{T}
 use lib.IntN.{ℤ}
 use lib.Ieee.{Float, nan, inf, fin, isNan, ne, lt}
+use lib.Ieee.Exact.{HasValue}
 use lib.Ieee.Scale.{finite}
 use Rattle.numbers.specs.Instant.{signBit}
 
@@ -57,6 +58,9 @@ plus-number (plus-fin m e) = number-fin false m e
 pub plus-finite-finite : {x : Float} → PlusFinite x → Finite x
 plus-finite-finite (plus-finite m e) = finite-fin false m e
 
+pub plus-finite-number : {x : Float} → PlusFinite x → Number x
+plus-finite-number (plus-finite m e) = number-fin false m e
+
 pub plus-finite-plus : {x : Float} → PlusFinite x → Plus x
 plus-finite-plus (plus-finite m e) = plus-fin m e
 
@@ -77,3 +81,10 @@ lt-numbers (inf s) (fin t n g) h = (number-inf s, number-fin t n g)
 lt-numbers (fin s m e) nan h = absurd (true≢false (sym h))
 lt-numbers (fin s m e) (inf t) h = (number-fin s m e, number-inf t)
 lt-numbers (fin s m e) (fin t n g) h = (number-fin s m e, number-fin t n g)
+
+-- what has a value with a clear sign bit is finite
+pub value-plus : (x : Float) (a c : ℕ) → HasValue x false a c → PlusFinite x
+value-plus nan a c v = absurd v
+value-plus (inf s) a c v = absurd v
+value-plus (fin true m e) a c v = absurd (true≢false (v .0))
+value-plus (fin false m e) a c v = plus-finite m e

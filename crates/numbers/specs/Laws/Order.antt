@@ -5,7 +5,8 @@ use mathlib.Core.Logic.{_⊎_, inl, inr}
 use Prim.Native.Nat.{ℕ, _+_, _*_, _<_, _≤_}
 use native.Mathlib.Nat.{add-comm, le-of-lt, le-of-eq, mul-le-mul-right, le-of-mul-le-mul-right}
 use native.Mathlib.Omega.{arith}
-use lib.Dec.{T, eqb, ltb, leb, ltb→lt, lt→ltb, eqb→eq, nltb→le}
+use lib.Arith.{lt→nleb}
+use lib.Dec.{T, eqb, ltb, leb, ltb→lt, lt→ltb, eqb→eq, nltb→le, nleb→lt}
 use lib.IntN.{ℤ}
 use lib.Ieee.{Float, inf, fin, lt, le, eq, up, down, below, level}
 use lib.Ieee.Fits.{down-pos, and-l, eq→eqb}
@@ -18,6 +19,9 @@ same-test true true h k = refl
 same-test true false h k = absurd (h tt)
 same-test false true h k = absurd (k tt)
 same-test false false h k = refl
+
+pub ltb-is-not-leb : (a b : ℕ) → ltb a b ≡ not (leb b a)
+ltb-is-not-leb a b = same-test (ltb a b) (not (leb b a)) (λ t. lt→nleb b a (ltb→lt a b t)) (λ t. lt→ltb a b (nleb→lt b a t))
 
 -- of two finite numbers with a clear sign bit the order is that of their fractions
 pub le→cross : (m n : ℕ) (e g : ℤ) → T (le (fin false m e) (fin false n g)) → m * up e * down g ≤ n * up g * down e

@@ -1,13 +1,12 @@
 -- What is at most 2 ^ 53 is a number; then only its sign bit, the highest of its pattern, is left to test.
 use mathlib.Core.Path.{_≡_, refl, sym, ap, _∙_}
 use mathlib.Core.Bool.{Bool, true, false, not, _||_, true≢false}
-use Prim.Native.Nat.{ℕ, _^_}
-use lib.Arith.{lt→nleb}
-use lib.Dec.{T, ltb, leb, ltb→lt, lt→ltb, nleb→lt}
+use Prim.Native.Nat.{_^_}
+use lib.Dec.{T, ltb, leb}
 use lib.Ieee.{Float, nan, inf, fin, binary64, ofBits, isNan, lt, le, fits, toBits}
 use Rattle.numbers.specs.Instant.{signBit, lastInstant, isInstantOf}
 use Rattle.numbers.specs.Laws.Kinds.{Number, number-inf, number-fin, number-is}
-use Rattle.numbers.specs.Laws.Order.{same-test, lt-is-not-le}
+use Rattle.numbers.specs.Laws.Order.{ltb-is-not-leb, lt-is-not-le}
 use Rattle.numbers.specs.Laws.Sign.{sign-of-bits}
 use Rattle.numbers.proofs.instant.is_instant.Statement.{statement}
 use Rattle.numbers.proofs.instant.is_instant.Tie as tie
@@ -20,10 +19,6 @@ compared (fin s m e) h = number-fin s m e
 
 bound : Number lastInstant
 bound = number-fin false 1 _
-
--- below 2 ^ 63 is without the highest bit
-clear : (b : ℕ) → ltb b (2 ^ 63) ≡ not (leb (2 ^ 63) b)
-clear b = same-test _ _ (λ t. lt→nleb (2 ^ 63) b (ltb→lt b (2 ^ 63) t)) (λ t. lt→ltb b (2 ^ 63) (nleb→lt (2 ^ 63) b t))
 
 or-false : (b : Bool) → (b || false) ≡ b
 or-false true = refl
@@ -38,7 +33,7 @@ within : (t : Float) → T (fits binary64 t) → le t lastInstant ≡ true → l
 unfolding isInstantOf
 within t f h =
     let n = compared t h in
-    rw (number-is n, lt-is-not-le n bound, h, sign-of-bits binary64 f n) (clear (toBits binary64 t) ∙ ap not (sym (or-false (leb (2 ^ 63) (toBits binary64 t)))))
+    rw (number-is n, lt-is-not-le n bound, h, sign-of-bits binary64 f n) (ltb-is-not-leb (toBits binary64 t) (2 ^ 63) ∙ ap not (sym (or-false (leb (2 ^ 63) (toBits binary64 t)))))
 
 -- for one above it, and for NaN
 beyond : (t : Float) → le t lastInstant ≡ false → false ≡ isInstantOf t

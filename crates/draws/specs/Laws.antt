@@ -1,0 +1,4 @@
+-- Laws about the draws.
+pub mod Top
+pub mod Fraction
+pub mod States

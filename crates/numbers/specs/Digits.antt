@@ -1,0 +1,27 @@
+-- Digits as document 01 reads them: "the digits as a whole number over a power of ten, one division".
+use mathlib.Core.Bool.{Bool, true, _&&_}
+use mathlib.Core.List.{List, [], _∷_}
+use Prim.Native.Nat.{ℕ, _+_, _-_, _*_, _^_}
+use lib.Dec.{leb}
+use lib.IntN.{pos}
+use lib.Ieee.{Float, binary64, ofInt, div}
+
+-- the bytes 48 to 57 are the digits 0 to 9
+abbrev pub isDigit : ℕ → Bool
+isDigit b = leb 48 b && leb b 57
+
+abbrev pub allDigits : List ℕ → Bool
+allDigits [] = true
+allDigits (b ∷ s) = isDigit b && allDigits s
+
+-- the whole number that digits give, read on from n
+abbrev pub wholeFrom : ℕ → List ℕ → ℕ
+wholeFrom n [] = n
+wholeFrom n (b ∷ s) = wholeFrom (n * 10 + (b - 48)) s
+
+abbrev pub wholeOf : List ℕ → ℕ
+wholeOf s = wholeFrom 0 s
+
+-- the float of a whole number n over 10 ^ k, one division
+unfoldable pub decimalOf : ℕ → ℕ → Float
+decimalOf n k = div binary64 (ofInt binary64 (pos n)) (ofInt binary64 (pos (10 ^ k)))
