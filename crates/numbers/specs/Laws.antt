@@ -7,5 +7,8 @@ pub mod Sign
 pub mod Values
 pub mod Sums
 pub mod Products
+pub mod Magnitude
+pub mod Credit
+pub mod Elapsed
 pub mod Digits
 pub mod Whole

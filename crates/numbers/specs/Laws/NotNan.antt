@@ -10,10 +10,13 @@ use lib.Ieee.Fits.{round-is}
 use lib.Ieee.Bits.{cond-no}
 use Rattle.numbers.specs.Laws.Kinds.{Number, number-inf, number-fin, Finite, finite-fin, Plus, plus-inf, plus-fin, PlusFinite, plus-finite}
 
--- what holds of both branches holds of the one taken
+-- what holds of both branches holds of the one taken; of the first it need hold only where the test passes
+pub cond-when : {A : Type 0} (P : A → Type 0) (b : Bool) {x y : A} → (T b → P x) → P y → P (cond b x y)
+cond-when P true p q = p tt
+cond-when P false p q = q
+
 pub cond-has : {A : Type 0} (P : A → Type 0) (b : Bool) {x y : A} → P x → P y → P (cond b x y)
-cond-has P true p q = p
-cond-has P false p q = q
+cond-has P b p q = cond-when P b (λ _. p) q
 
 -- a rounding is a finite number or an infinity of its sign, so what holds of those holds of it
 units-has : (P : Float → Type 0) (f : Format) (s : Bool) (q k : ℕ) → ((m : ℕ) (e : ℤ) → P (fin s m e)) → P (inf s) → P (units f s q k)
@@ -67,17 +70,15 @@ mul-plus f (plus-finite m e) (plus-finite n g) = round-plus f _ _
 pub data Divisor : Float → Type 0 where
   divisor : (s : Bool) (n : ℕ) (g : ℤ) → 0 < n → Divisor (fin s n g)
 
-not-zero : (n : ℕ) → 0 < n → T (not (eqb n 0))
-not-zero n h = not-T (eqb n 0) (λ t. absurd (omega (arith, eqb→eq n 0 t)))
-
-quotient-has : (P : Float → Type 0) (n : ℕ) (x y : Float) → 0 < n → P y → P (cond (eqb n 0) x y)
-quotient-has P n x y h p = subst P (sym (cond-no (eqb n 0) x y (not-zero n h))) p
+-- such a quotient is the fraction, rounded once
+pub div-fin : (f : Format) (s t : Bool) (m n : ℕ) (e g : ℤ) → 0 < n → div f (fin s m e) (fin t n g) ≡ round f (unlike s t) (m * up e * down g) (n * up g * down e)
+unfolding div
+div-fin f s t m n e g h = cond-no (eqb n 0) _ _ (not-T (eqb n 0) (λ z. omega (arith, eqb→eq n 0 z)))
 
 pub div-number : (f : Format) {x y : Float} → Finite x → Divisor y → Number (div f x y)
-unfolding div
-div-number f (finite-fin s m e) (divisor t n g h) = quotient-has Number n _ _ h (round-number f _ _ _)
+div-number f (finite-fin s m e) (divisor t n g h) = rw (div-fin f s t m n e g h) (round-number f _ _ _)
 
 pub div-plus : (f : Format) {x : Float} (n : ℕ) (g : ℤ) → Plus x → 0 < n → Plus (div f x (fin false n g))
 unfolding div
 div-plus f n g plus-inf h = plus-inf
-div-plus f n g (plus-fin m e) h = quotient-has Plus n _ _ h (round-plus f _ _)
+div-plus f n g (plus-fin m e) h = rw (div-fin f false false m n e g h) (round-plus f _ _)

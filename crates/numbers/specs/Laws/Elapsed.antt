@@ -1,0 +1,91 @@
+-- The time since an earlier instant, at least 0, is from 0 to 2 ^ 53 and never -0: a difference of two values that fit is not rounded to zero.
+use mathlib.Core.Path.{_≡_, refl, _∙_}
+use mathlib.Core.Bool.{Bool, true, false, _&&_, cond}
+use Prim.Native.Nat.{ℕ, zero, suc, _+_, _-_, _*_, _%_, _^_, _<_, _≤_, _∣_}
+use native.Mathlib.Nat.{mul-pos, mul-comm, mul-sub, one-mul, sub-pos-iff-lt, le-of-dvd, one-dvd, dvd-sub, dvd-mul-left, mul-dvd-mul}
+use native.Mathlib.Omega.{arith}
+use lib.Dec.{T, eqb, ltb, leb, leb→le, ltb→lt, lt→ltb, eqb→eq}
+use lib.Pow.{pow-pos, pow-add}
+use lib.IntN.{ℤ, pos, negsuc}
+use lib.Ieee.{Float, fin, Format, binary64, round, add, sum, sub, neg, lt, le, up, down, fits, prec, low}
+use lib.Ieee.Fits.{down-pos, and-l, and-r}
+use lib.Ieee.Order.{round-mono}
+use lib.Ieee.Positive.{first-pos}
+use lib.Ieee.Bits.{is-true}
+use Rattle.numbers.specs.Extremes.{maximumOf}
+use Rattle.numbers.specs.Instant.{lastInstant}
+use Rattle.numbers.specs.Laws.Kinds.{Number, number-fin, finite-fin, Plus, plus-inf, plus-fin, PlusFinite, plus-finite}
+use Rattle.numbers.specs.Laws.NotNan.{cond-when, round-number, round-plus}
+use Rattle.numbers.specs.Laws.Order.{le→cross, le-trans-plus}
+use Rattle.numbers.specs.Laws.Extremes.{chosen-has, chosen-number}
+use Rattle.numbers.specs.Laws.Values.{low-exp, restore}
+use Rattle.numbers.specs.Laws.Products.{finite-below}
+use Rattle.numbers.specs.Laws.Magnitude.{round-neg, left-below}
+use Rattle.numbers.specs.Laws.Credit.{Bounded, nought}
+
+-- a value that fits is a whole multiple of the format's smallest one
+fits-multiple : (f : Format) (s : Bool) (m : ℕ) (e : ℤ) → T (fits f (fin s m e)) → down e ∣ 2 ^ low f
+unfolding fits
+fits-multiple f s m (pos k) h = one-dvd (2 ^ low f)
+fits-multiple f s zero (negsuc k) h = absurd (omega (arith, eqb→eq (1 * 2 ^ suc k) 1 h, pow-pos k))
+fits-multiple f s (suc m) (negsuc k) h =
+    let i = suc k in
+    let odd = eqb (suc m % 2) 1 && ltb (suc m) (2 ^ prec f) in
+    let small = leb (2 ^ i) (2 ^ low f) in
+    rw (← pow-add 2 (low f - i) i, restore i (low f) (low-exp i (low f) (leb→le (2 ^ i) (2 ^ low f) (and-r odd small (and-l (odd && small) _ h))))) at (dvd-mul-left (2 ^ i) (2 ^ (low f - i)))
+
+-- so is a difference of two: above 0, it is at least one of them
+gap : (p q D G L : ℕ) → D ∣ L → G ∣ L → 0 < L → p * G < q * D → 1 * (D * G) ≤ (q * D - p * G) * L
+gap p q D G L d g l h =
+    rw (one-mul (D * G))
+    (le-of-dvd (mul-pos (sub-pos-iff-lt .1 h) l)
+    (rw (mul-comm (q * D - p * G) L, mul-sub L (q * D) (p * G)) (dvd-sub (D * G) (rw (mul-comm L (q * D)) (mul-dvd-mul D G (dvd-mul-left D q) g)) (mul-dvd-mul D G d (dvd-mul-left G p)))))
+
+abbrev smallest : Float
+smallest = fin false 1 (negsuc 1073)
+
+smallest-is : round binary64 false 1 (2 ^ 1074) ≡ smallest
+unfolding round
+smallest-is = refl
+
+-- a positive difference of two values that fit is not below the smallest positive value
+not-lost : (m n : ℕ) (e g : ℤ) → T (fits binary64 (fin false m e)) → T (fits binary64 (fin false n g)) → m * up e * down g < n * up g * down e
+    → T (le smallest (round binary64 false (n * up g * down e - m * up e * down g) (down e * down g)))
+not-lost m n e g h k l =
+    rw (← smallest-is)
+    (round-mono binary64 1 (2 ^ 1074) (n * up g * down e - m * up e * down g) (down e * down g) (pow-pos 1074) (mul-pos (down-pos e) (down-pos g))
+    (gap (m * up e) (n * up g) (down e) (down g) (2 ^ 1074) (fits-multiple binary64 false m e h) (fits-multiple binary64 false n g k) (pow-pos 1074) l))
+
+-- the negative of a positive value is below zero
+minus-below : {x : Float} → Plus x → T (le smallest x) → T (lt (neg x) nought)
+unfolding neg lt
+minus-below plus-inf h = tt
+minus-below (plus-fin m e) h = lt→ltb 0 (m * up e * 1 + 0 * 1 * down e) (some (m * up e) (down e) (2 ^ 1074) (down-pos e) (le→cross 1 m (negsuc 1073) e h))
+  where
+    some : (a d k : ℕ) → 0 < d → 1 * 1 * d ≤ a * k → 0 < a * 1 + 0 * 1 * d
+    some a d k h l = omega (arith, first-pos a k (omega arith))
+
+nought-bounded : Bounded nought
+unfolding le
+nought-bounded = record { clear = plus-finite 0 (pos 0); small = tt }
+
+-- of a number below 0 and 0 the maximum is 0
+nought-above : {x : Float} → Number x → T (lt x nought) → maximumOf x nought ≡ nought
+nought-above {x} p h = chosen-number (lt x nought) p (number-fin false 0 (pos 0)) ∙ rw (is-true (lt x nought) h)
+
+since : {x y : Float} → T (fits binary64 x) → T (fits binary64 y) → PlusFinite x → PlusFinite y → T (le x lastInstant) → Bounded (maximumOf (sub binary64 x y) nought)
+unfolding sub add sum neg
+since h k (plus-finite m e) (plus-finite n g) s =
+    let a = m * up e * down g in
+    let b = n * up g * down e in
+    let c = down e * down g in
+    let under = left-below binary64 m e g b h in
+    cond-when (λ (z : Float). Bounded (maximumOf z nought)) (ltb a b)
+    (λ t. rw (nought-above (round-number binary64 true (b - a) c) (rw (round-neg binary64 (b - a) c) (minus-below (round-plus binary64 (b - a) c) (not-lost m n e g h k (ltb→lt a b t))))) nought-bounded)
+    (chosen-has Bounded (lt (round binary64 false (a - b) c) nought) (record {
+      clear = finite-below (round-plus binary64 (a - b) c) (finite-fin false m e) under;
+      small = le-trans-plus (round-plus binary64 (a - b) c) (plus-fin m e) (plus-fin 1 (pos 53)) under s;
+    }) nought-bounded)
+
+pub elapsed-bounded : {now last : Float} → T (fits binary64 now) → T (fits binary64 last) → Bounded now → Bounded last → Bounded (maximumOf (sub binary64 now last) nought)
+elapsed-bounded h k p q = since h k (p .clear) (q .clear) (p .small)

@@ -1,0 +1,29 @@
+-- What equals itself is no NaN, so it has a bit pattern.
+use Rattle.numbers.specs.Laws.Kinds.{same-number-of, number-is}
+use lib.Ieee.{isNan}
+use borrow.Author.Needs.{needs}
+use Rattle.vectors.proofs.print.float.Statement.{statement}
+use Rattle.vectors.proofs.print.float.Tie as tie
+
+slice-aggregate-text : tie.Need-slice-aggregate-text
+slice-aggregate-text c = search needs
+
+text-requires : tie.Need-text-requires
+text-requires c κs = search needs
+
+float-to-bits-hex : tie.Need-float-to-bits-hex
+float-to-bits-hex c = rw (number-is (same-number-of (c .before .args .x) (c .if1 .left))) tt
+
+hex-requires : tie.Need-hex-requires
+hex-requires c κs = search needs
+
+returns : tie.Need-returns
+returns c = search needs
+
+returns-2 : tie.Need-returns-2
+returns-2 c = search needs
+
+pub float-spec : {M : Type 1} → statement M
+float-spec =
+    tie.close
+    (tie.spec slice-aggregate-text text-requires float-to-bits-hex hex-requires returns returns-2)

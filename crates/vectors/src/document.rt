@@ -1,0 +1,30 @@
+// Lines of document 01.
+use crate::floats;
+use crate::print;
+use draws::Rng;
+
+// The generator of seed 1 after one draw: its state and output, and whether loss 0.25 and 0.3 drop.
+pub fn seed_one() {
+    let drawn = Rng::new(1).next_u64();
+    print::text(b"seed 1");
+    print::hex(drawn.rng.state);
+    print::hex(drawn.value);
+    let draw = Rng::new(1).next_f64();
+    print::flag(draw.value < 25.0 / 100.0);
+    print::flag(draw.value < 3.0 / 10.0);
+    print::end();
+}
+
+// Which floats are instants, by refusal 21.
+pub fn instants() {
+    for i in 0..16 {
+        instant(floats::at(i));
+    }
+}
+
+fn instant(t: f64) {
+    print::text(b"instant");
+    print::float(t);
+    print::flag(numbers::is_instant(t));
+    print::end();
+}

@@ -1,0 +1,99 @@
+// The lines that oracle/src/vectors.rs prints of the Rust source.
+use crate::floats;
+use crate::print;
+use draws::Rng;
+
+pub fn draws() {
+    of_seed(0);
+    of_seed(1);
+    of_seed(2);
+    of_seed(1234567);
+    of_seed(0xFFFF_FFFF);
+    of_seed(0x1_0000_0000);
+    of_seed(0x20_0000_0000_0000);
+    of_seed(0x61C8_8646_80B5_83EB);
+    of_seed(0x7FFF_FFFF_FFFF_FFFF);
+    of_seed(0x8000_0000_0000_0000);
+    of_seed(0x9E37_79B9_7F4A_7C15);
+    of_seed(0xFFFF_FFFF_FFFF_FFFF);
+}
+
+// The first outputs and draws of a seed, its direction seeds, and a long run.
+fn of_seed(seed: u64) {
+    print::text(b"next_u64");
+    print::hex(seed);
+    outputs(outputs(Rng::new(seed)));
+    print::text(b"\nnext_f64");
+    print::hex(seed);
+    fractions(fractions(Rng::new(seed)));
+    print::text(b"\ndirection_seed");
+    print::hex(seed);
+    direction_seeds(seed);
+    print::text(b"\nlong_run");
+    print::hex(seed);
+    print::hex(long_run(seed));
+    print::end();
+}
+
+// Prints four outputs, and gives the next generator.
+fn outputs(rng: Rng) -> Rng {
+    output(output(output(output(rng))))
+}
+
+fn output(rng: Rng) -> Rng {
+    let drawn = rng.next_u64();
+    print::hex(drawn.value);
+    drawn.rng
+}
+
+// Prints four draws, and gives the next generator.
+fn fractions(rng: Rng) -> Rng {
+    fraction(fraction(fraction(fraction(rng))))
+}
+
+fn fraction(rng: Rng) -> Rng {
+    let drawn = rng.next_f64();
+    print::float(drawn.value);
+    drawn.rng
+}
+
+fn direction_seeds(seed: u64) {
+    print::hex(draws::direction_seed(seed, 0));
+    print::hex(draws::direction_seed(seed, 1));
+    print::hex(draws::direction_seed(seed, 2));
+    print::hex(draws::direction_seed(seed, 0xFFFF_FFFF));
+    print::hex(draws::direction_seed(seed, 0x8000_0000_0000_0000));
+    print::hex(draws::direction_seed(seed, 0xFFFF_FFFF_FFFF_FFFF));
+}
+
+// A million outputs, folded into one number.
+fn long_run(seed: u64) -> u64 {
+    let mut rng = Rng::new(seed);
+    let mut fold: u64 = 0;
+    for _ in 0..1000000u32 {
+        let drawn = rng.next_u64();
+        fold = numbers::wrapping_mul(fold ^ drawn.value, 0x100_0000_01B3);
+        rng = drawn.rng;
+    }
+    fold
+}
+
+// The maximum and the minimum of every pair of the floats.
+pub fn extremes() {
+    for k in 0..256 {
+        extreme_pair(floats::at(k / 16), floats::at(k % 16));
+    }
+}
+
+// Nothing for a pair of zeros, of which Rust may give either.
+fn extreme_pair(x: f64, y: f64) {
+    if x == 0.0 && y == 0.0 {
+        return;
+    }
+    print::text(b"max_min");
+    print::float(x);
+    print::float(y);
+    print::float(numbers::maximum(x, y));
+    print::float(numbers::minimum(x, y));
+    print::end();
+}
