@@ -1,11 +1,8 @@
 -- Document 01's starred lines about draws, as theorems about the definitions.
 use mathlib.Core.Path.{_≡_, refl}
 use mathlib.Core.Bool.{true, false}
-use lib.IntN.{pos}
-use lib.Ieee.{Float, lt, mul, div, ofInt}
+use lib.Ieee.{lt, mul, div, ofInt}
 use Rattle.numbers.specs.Digits.{decimalOf}
-use Rattle.draws.specs.declared.rng.Rng.{Rng}
-use Rattle.draws.specs.declared.rng.DrawU64.{DrawU64}
 use Rattle.draws.specs.Rng.{newOf, stepOf, outputOf, nextU64Of, fractionOf, nextF64Of}
 
 pub record DrawLines : Type 0 where

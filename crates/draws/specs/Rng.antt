@@ -1,7 +1,7 @@
 -- xorshift64* (Vigna, "An experimental exploration of Marsaglia's xorshift generators, scrambled"), with the shifts 12, 25, 27 and the
 -- multiplier 0x2545F4914F6CDD1D, and the draws of document 01 that are made of its outputs.
 use mathlib.Core.Bool.{false, cond}
-use Prim.Native.Nat.{ℕ, zero, suc, _^_}
+use Prim.Native.Nat.{ℕ, zero, suc}
 use lib.Dec.{eqb}
 use lib.IntN.{pos, negsuc}
 use lib.Ieee.{Float, fin, binary64, mul, ofInt}

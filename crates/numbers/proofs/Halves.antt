@@ -1,6 +1,6 @@
 -- The product modulo 2 ^ (k + k) of two numbers from their halves of k bits, for every k.
 use mathlib.Core.Path.{_≡_, refl, sym, ap, ap₂, _∙_}
-use Prim.Native.Nat.{ℕ, _+_, _*_, _/_, _%_, _^_, _<_, _≤_}
+use Prim.Native.Nat.{ℕ, _+_, _*_, _/_, _%_, _^_, _<_}
 use native.Mathlib.Nat.{div-add-mod', mul-add-mod-self-right, mul-le-mul-left, mul-lt-mul-of-pos-right, le-of-lt, lt-of-le-of-lt}
 use native.Mathlib.Omega.{arith}
 use lib.Pow.{mod-mod-pow, pow-add, pow-pos}

@@ -1,18 +1,16 @@
 -- A number of w bits times 2 ^ -w is exact in binary64 for every width up to 53, so no draw is rounded.
-use mathlib.Core.Path.{_≡_, refl, sym, ap, subst, _∙_}
-use mathlib.Core.Bool.{Bool, false, true}
+use mathlib.Core.Path.{_≡_, refl, sym, ap, _∙_}
+use mathlib.Core.Bool.{false, true}
 use Prim.Native.Nat.{ℕ, zero, suc, _+_, _-_, _*_, _^_, _<_, _≤_}
-use native.Mathlib.Nat.{mul-assoc, mul-one, one-mul, le-of-lt, lt-of-lt-of-le, mul-pos, mod-lt, le-refl}
+use native.Mathlib.Nat.{mul-assoc, mul-one, one-mul, le-of-lt, lt-of-lt-of-le, mod-lt, le-refl}
 use native.Mathlib.Omega.{arith}
 use borrow.Author.Tests.{lt-ltb}
-use lib.Dec.{T, lit≤, lit<}
+use lib.Dec.{lit≤, lit<}
 use lib.Pow.{pow-pos, pow-add, pow-mono, shl-lt}
-use lib.IntN.{ℤ, pos}
-use lib.Ieee.{Float, fin, binary64, mul, ofInt, round, up, down, lt}
+use lib.IntN.{pos}
+use lib.Ieee.{binary64, mul, ofInt, round, lt}
 use lib.Ieee.Exact.{HasValue, round-exact}
-use lib.Ieee.Fits.{down-pos}
 use lib.Ieee.Back.{round-whole}
-use lib.Ieee.Scale.{round-same}
 use Rattle.numbers.specs.Laws.Kinds.{PlusFinite, value-plus}
 use Rattle.numbers.specs.Laws.Products.{mul-values}
 use Rattle.numbers.specs.Laws.Whole.{lt-values}

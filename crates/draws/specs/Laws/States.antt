@@ -2,14 +2,12 @@
 use mathlib.Core.Path.{_≡_, refl, sym, ap, _∙_}
 use mathlib.Core.Bool.{Bool, true, false, cond}
 use Prim.Native.Nat.{ℕ, zero, suc, _+_, _*_, _/_, _%_, _^_, _-_, _<_, _≤_}
-use native.Mathlib.Nat.{div-mul-le-self, div-add-mod', mul-add-mod-self-right, mul-mod-left, mul-le-mul-left, mul-assoc, mul-right-comm, mul-comm, mul-one, pow-suc}
+use native.Mathlib.Nat.{div-mul-le-self, div-add-mod', mul-add-mod-self-right, mul-mod-left, mul-le-mul-left, mul-assoc}
 use native.Mathlib.Omega.{arith}
-use lib.Bits.{bitXor, bitAnd, xor-add-and, and-le-l, and-le-r}
-use lib.Dec.{T, eqb, eqb→eq}
+use lib.Bits.{bitXor, xor-add-and, and-le-l, and-le-r}
+use lib.Dec.{T, eqb}
 use lib.Ieee.Fits.{eq→eqb}
 use lib.Pow.{pow-add, pow-mono}
-use Rattle.draws.specs.declared.rng.Rng.{Rng}
-use Rattle.draws.specs.declared.rng.DrawU64.{DrawU64}
 use Rattle.draws.specs.Shifts.{xorShiftRight, xorShiftLeft, goldenGamma}
 use Rattle.draws.specs.Rng.{newOf, stepOf, outputOf, nextU64Of}
 

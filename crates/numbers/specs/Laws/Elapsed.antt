@@ -1,14 +1,14 @@
 -- The time since an earlier instant, at least 0, is from 0 to 2 ^ 53 and never -0: a difference of two values that fit is not rounded to zero.
 use mathlib.Core.Path.{_≡_, refl, _∙_}
-use mathlib.Core.Bool.{Bool, true, false, _&&_, cond}
-use Prim.Native.Nat.{ℕ, zero, suc, _+_, _-_, _*_, _%_, _^_, _<_, _≤_, _∣_}
+use mathlib.Core.Bool.{true, false}
+use Prim.Native.Nat.{ℕ, suc, _+_, _-_, _*_, _^_, _<_, _≤_, _∣_}
 use native.Mathlib.Nat.{mul-pos, mul-comm, mul-sub, one-mul, sub-pos-iff-lt, le-of-dvd, one-dvd, dvd-sub, dvd-mul-left, mul-dvd-mul}
 use native.Mathlib.Omega.{arith}
-use lib.Dec.{T, eqb, ltb, leb, leb→le, ltb→lt, lt→ltb, eqb→eq}
+use lib.Dec.{T, ltb, ltb→lt, lt→ltb}
 use lib.Pow.{pow-pos, pow-add}
 use lib.IntN.{ℤ, pos, negsuc}
-use lib.Ieee.{Float, fin, Format, binary64, round, add, sum, sub, neg, lt, le, up, down, fits, prec, low}
-use lib.Ieee.Fits.{down-pos, and-l, and-r}
+use lib.Ieee.{Float, fin, Format, binary64, round, add, sum, sub, neg, lt, le, up, down, fits, low}
+use lib.Ieee.Fits.{down-pos}
 use lib.Ieee.Order.{round-mono}
 use lib.Ieee.Positive.{first-pos}
 use lib.Ieee.Bits.{is-true}
@@ -18,21 +18,15 @@ use Rattle.numbers.specs.Laws.Kinds.{Number, number-fin, finite-fin, Plu
 use Rattle.numbers.specs.Laws.NotNan.{cond-when, round-number, round-plus}
 use Rattle.numbers.specs.Laws.Order.{le→cross, le-trans-plus}
 use Rattle.numbers.specs.Laws.Extremes.{chosen-has, chosen-number}
-use Rattle.numbers.specs.Laws.Values.{low-exp, restore}
+use Rattle.numbers.specs.Laws.Values.{fits-parts, low-exp, restore}
 use Rattle.numbers.specs.Laws.Products.{finite-below}
 use Rattle.numbers.specs.Laws.Magnitude.{round-neg, left-below}
 use Rattle.numbers.specs.Laws.Credit.{Bounded, nought}
 
 -- a value that fits is a whole multiple of the format's smallest one
-fits-multiple : (f : Format) (s : Bool) (m : ℕ) (e : ℤ) → T (fits f (fin s m e)) → down e ∣ 2 ^ low f
-unfolding fits
-fits-multiple f s m (pos k) h = one-dvd (2 ^ low f)
-fits-multiple f s zero (negsuc k) h = absurd (omega (arith, eqb→eq (1 * 2 ^ suc k) 1 h, pow-pos k))
-fits-multiple f s (suc m) (negsuc k) h =
-    let i = suc k in
-    let odd = eqb (suc m % 2) 1 && ltb (suc m) (2 ^ prec f) in
-    let small = leb (2 ^ i) (2 ^ low f) in
-    rw (← pow-add 2 (low f - i) i, restore i (low f) (low-exp i (low f) (leb→le (2 ^ i) (2 ^ low f) (and-r odd small (and-l (odd && small) _ h))))) at (dvd-mul-left (2 ^ i) (2 ^ (low f - i)))
+fits-multiple : (f : Format) (e : ℤ) → down e ≤ 2 ^ low f → down e ∣ 2 ^ low f
+fits-multiple f (pos k) h = one-dvd (2 ^ low f)
+fits-multiple f (negsuc k) h = let i = suc k in rw (← pow-add 2 (low f - i) i, restore i (low f) (low-exp i (low f) h)) at (dvd-mul-left (2 ^ i) (2 ^ (low f - i)))
 
 -- so is a difference of two: above 0, it is at least one of them
 gap : (p q D G L : ℕ) → D ∣ L → G ∣ L → 0 < L → p * G < q * D → 1 * (D * G) ≤ (q * D - p * G) * L
@@ -54,7 +48,7 @@ not-lost : (m n : ℕ) (e g : ℤ) → T (fits binary64 (fin false m e)) → T (
 not-lost m n e g h k l =
     rw (← smallest-is)
     (round-mono binary64 1 (2 ^ 1074) (n * up g * down e - m * up e * down g) (down e * down g) (pow-pos 1074) (mul-pos (down-pos e) (down-pos g))
-    (gap (m * up e) (n * up g) (down e) (down g) (2 ^ 1074) (fits-multiple binary64 false m e h) (fits-multiple binary64 false n g k) (pow-pos 1074) l))
+    (gap (m * up e) (n * up g) (down e) (down g) (2 ^ 1074) (fits-multiple binary64 e (fits-parts binary64 false m e h .fine)) (fits-multiple binary64 g (fits-parts binary64 false n g k .fine)) (pow-pos 1074) l))
 
 -- the negative of a positive value is below zero
 minus-below : {x : Float} → Plus x → T (le smallest x) → T (lt (neg x) nought)

@@ -1,8 +1,7 @@
 -- A maximum or a minimum is one of its operands, and which one.
-use mathlib.Core.Path.{_≡_, refl, ap, _∙_}
-use mathlib.Core.Bool.{Bool, true, false, cond, true≢false}
-use lib.Dec.{T}
-use lib.Ieee.{Float, nan, inf, fin, isNan, lt, ne}
+use mathlib.Core.Path.{_≡_, refl}
+use mathlib.Core.Bool.{Bool, cond}
+use lib.Ieee.{Float, nan, isNan}
 use Rattle.numbers.specs.Extremes.{chosenOf}
 use Rattle.numbers.specs.Laws.Kinds.{Number, number-is}
 use Rattle.numbers.specs.Laws.NotNan.{cond-has}

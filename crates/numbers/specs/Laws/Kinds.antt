@@ -1,10 +1,11 @@
 -- What kind of value a float is: a number, finite, with a clear sign bit. A law matches on the kind, and so meets only the cases that it allows.
-use mathlib.Core.Path.{_≡_, refl, sym}
+use mathlib.Core.Path.{_≡_, refl}
 use mathlib.Core.Bool.{Bool, true, false, not, true≢false}
-use Prim.Native.Nat.{ℕ}
-use lib.Dec.{T}
+use Prim.Native.Nat.{ℕ, _*_}
+use lib.Dec.{T, eqb, eqb-refl}
 use lib.IntN.{ℤ}
-use lib.Ieee.{Float, nan, inf, fin, isNan, ne, lt}
+use lib.Ieee.{Float, nan, inf, fin, isNan, eq, ne, up, down}
+use lib.Ieee.Bits.{is-true}
 use lib.Ieee.Exact.{HasValue}
 use lib.Ieee.Scale.{finite}
 use Rattle.numbers.specs.Instant.{signBit}
@@ -65,22 +66,16 @@ pub plus-finite-plus : {x : Float} → PlusFinite x → Plus x
 plus-finite-plus (plus-finite m e) = plus-fin m e
 
 -- only a NaN differs from itself
-pub same-number-of : (x : Float) → ne x x ≡ false → Number x
-unfolding ne
-same-number-of nan h = absurd (true≢false h)
-same-number-of (inf s) h = number-inf s
-same-number-of (fin s m e) h = number-fin s m e
+pub nan-differs : (x : Float) → isNan x ≡ ne x x
+unfolding isNan ne eq
+nan-differs nan = refl
+nan-differs (inf true) = refl
+nan-differs (inf false) = refl
+nan-differs (fin true m e) = rw (is-true (eqb (m * up e * down e) (m * up e * down e)) (eqb-refl (m * up e * down e)))
+nan-differs (fin false m e) = rw (is-true (eqb (m * up e * down e) (m * up e * down e)) (eqb-refl (m * up e * down e)))
 
--- what is compared and found less is a number, and so is what it is less than
-pub lt-numbers : (x y : Float) → lt x y ≡ true → Number x × Number y
-unfolding lt
-lt-numbers nan y h = absurd (true≢false (sym h))
-lt-numbers (inf s) nan h = absurd (true≢false (sym h))
-lt-numbers (inf s) (inf t) h = (number-inf s, number-inf t)
-lt-numbers (inf s) (fin t n g) h = (number-inf s, number-fin t n g)
-lt-numbers (fin s m e) nan h = absurd (true≢false (sym h))
-lt-numbers (fin s m e) (inf t) h = (number-fin s m e, number-inf t)
-lt-numbers (fin s m e) (fin t n g) h = (number-fin s m e, number-fin t n g)
+pub self-equal : (x : Float) → ne x x ≡ false → Number x
+self-equal x h = number-of x (rw (nan-differs x, h) tt)
 
 -- what has a value with a clear sign bit is finite
 pub value-plus : (x : Float) (a c : ℕ) → HasValue x false a c → PlusFinite x

@@ -1,11 +1,11 @@
 -- A rounding, and so a sum, difference, product or quotient of finite numbers, is no NaN; of what has a clear sign bit the rounding has one too.
-use mathlib.Core.Path.{_≡_, refl, sym, subst}
+use mathlib.Core.Path.{_≡_, sym, subst}
 use mathlib.Core.Bool.{Bool, true, false, _&&_, not, cond, Bool·beq}
 use Prim.Native.Nat.{ℕ, zero, suc, _+_, _*_, _^_, _-_, _<_}
 use native.Mathlib.Omega.{arith}
 use lib.Dec.{T, eqb, ltb, eqb→eq, not-T}
 use lib.IntN.{ℤ}
-use lib.Ieee.{Float, nan, inf, fin, Format, round, units, odd, add, sub, mul, div, neg, sum, up, down, unlike, low, emax, prec}
+use lib.Ieee.{Float, inf, fin, Format, round, units, odd, add, sub, mul, div, neg, sum, up, down, unlike, low, emax}
 use lib.Ieee.Fits.{round-is}
 use lib.Ieee.Bits.{cond-no}
 use Rattle.numbers.specs.Laws.Kinds.{Number, number-inf, number-fin, Finite, finite-fin, Plus, plus-inf, plus-fin, PlusFinite, plus-finite}

@@ -1,15 +1,14 @@
 -- The order of numbers.
-use mathlib.Core.Path.{_≡_, refl, sym, ap, ap₂, _∙_, subst}
-use mathlib.Core.Bool.{Bool, true, false, _&&_, _||_, not, cond}
-use mathlib.Core.Logic.{_⊎_, inl, inr}
+use mathlib.Core.Path.{_≡_, refl, sym, ap, _∙_}
+use mathlib.Core.Bool.{Bool, true, false, _&&_, _||_, not}
 use Prim.Native.Nat.{ℕ, _+_, _*_, _<_, _≤_}
 use native.Mathlib.Nat.{add-comm, le-of-lt, le-of-eq, mul-le-mul-right, le-of-mul-le-mul-right}
 use native.Mathlib.Omega.{arith}
 use lib.Arith.{lt→nleb}
 use lib.Dec.{T, eqb, ltb, leb, ltb→lt, lt→ltb, eqb→eq, nltb→le, nleb→lt}
 use lib.IntN.{ℤ}
-use lib.Ieee.{Float, inf, fin, lt, le, eq, up, down, below, level}
-use lib.Ieee.Fits.{down-pos, and-l, eq→eqb}
+use lib.Ieee.{Float, inf, fin, lt, le, up, down}
+use lib.Ieee.Fits.{down-pos, eq→eqb}
 use lib.Ieee.Order.{le-of-values}
 use Rattle.numbers.specs.Laws.Kinds.{Number, number-inf, number-fin, Plus, plus-inf, plus-fin}
 

@@ -1,9 +1,9 @@
 -- The sign bit of a number is the highest bit of its pattern.
 use mathlib.Core.Path.{_≡_, refl, sym, ap, subst, _∙_}
-use mathlib.Core.Bool.{Bool, true, false, cond, not}
+use mathlib.Core.Bool.{Bool, true, false, cond}
 use Prim.Native.Nat.{ℕ, zero, suc, _+_, _/_, _%_}
 use lib.Dec.{T, eqb, leb}
-use lib.Ieee.{Float, nan, inf, fin, Format, fits, toBits, ofBits, ofFields, odd, top, ones, prec, hid, low, isNan}
+use lib.Ieee.{Float, nan, inf, Format, fits, toBits, ofBits, ofFields, odd, top, ones, prec, hid, low}
 use lib.Ieee.Bits.{ofBits-toBits}
 use Rattle.numbers.specs.Instant.{signBit}
 use Rattle.numbers.specs.Laws.Kinds.{Number}

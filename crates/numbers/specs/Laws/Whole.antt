@@ -3,9 +3,9 @@ use mathlib.Core.Path.{_≡_, sym, ap, ap₂, _∙_}
 use mathlib.Core.Bool.{false, not}
 use Prim.Native.Nat.{ℕ, _*_, _^_, _<_, _≤_}
 use native.Mathlib.Nat.{mul-one}
-use lib.Dec.{T, ltb, leb, leb→le, le→leb, lit<}
+use lib.Dec.{ltb, leb, leb→le, le→leb, lit<}
 use lib.IntN.{pos}
-use lib.Ieee.{Float, Format, binary64, ofInt, prec, lt, le, up, down}
+use lib.Ieee.{Float, fin, Format, binary64, ofInt, prec, lt, le, up, down}
 use lib.Ieee.Fits.{down-pos}
 use lib.Ieee.Back.{round-whole}
 use lib.Ieee.Exact.{HasValue}
@@ -20,7 +20,7 @@ module _ (x y : Float) (a c b d : ℕ) (C : 0 < c) (D : 0 < d) (v : HasValue x f
     where
       go : {x y : Float} → PlusFinite x → PlusFinite y → HasValue x false a c → HasValue y false b d → le x y ≡ leb (a * d) (b * c)
       go (plus-finite m e) (plus-finite n g) v w =
-          same-test (le (lib.Ieee.fin false m e) (lib.Ieee.fin false n g)) (leb (a * d) (b * c))
+          same-test (le (fin false m e) (fin false n g)) (leb (a * d) (b * c))
           (λ t. le→leb (a * d) (b * c) (transfer a b c d (m * up e) (n * up g) (down e) (down g) (down-pos e) (down-pos g) (sym (v .1)) (sym (w .1)) (le→cross m n e g t)))
           (λ t. cross→le m n e g (transfer (m * up e) (n * up g) (down e) (down g) a b c d C D (v .1) (w .1) (leb→le (a * d) (b * c) t)))
 

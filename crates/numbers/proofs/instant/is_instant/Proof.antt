@@ -3,8 +3,8 @@ use mathlib.Core.Path.{_≡_, refl, sym, ap, _∙_}
 use mathlib.Core.Bool.{Bool, true, false, not, _||_, true≢false}
 use Prim.Native.Nat.{_^_}
 use lib.Dec.{T, ltb, leb}
-use lib.Ieee.{Float, nan, inf, fin, binary64, ofBits, isNan, lt, le, fits, toBits}
-use Rattle.numbers.specs.Instant.{signBit, lastInstant, isInstantOf}
+use lib.Ieee.{Float, nan, inf, fin, binary64, ofBits, isNan, le, fits, toBits}
+use Rattle.numbers.specs.Instant.{lastInstant, isInstantOf}
 use Rattle.numbers.specs.Laws.Kinds.{Number, number-inf, number-fin, number-is}
 use Rattle.numbers.specs.Laws.Order.{ltb-is-not-leb, lt-is-not-le}
 use Rattle.numbers.specs.Laws.Sign.{sign-of-bits}

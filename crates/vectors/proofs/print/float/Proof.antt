@@ -1,6 +1,5 @@
 -- What equals itself is no NaN, so it has a bit pattern.
-use Rattle.numbers.specs.Laws.Kinds.{same-number-of, number-is}
-use lib.Ieee.{isNan}
+use Rattle.numbers.specs.Laws.Kinds.{self-equal, number-is}
 use borrow.Author.Needs.{needs}
 use Rattle.vectors.proofs.print.float.Statement.{statement}
 use Rattle.vectors.proofs.print.float.Tie as tie
@@ -12,7 +11,7 @@ text-requires : tie.Need-text-requires
 text-requires c κs = search needs
 
 float-to-bits-hex : tie.Need-float-to-bits-hex
-float-to-bits-hex c = rw (number-is (same-number-of (c .before .args .x) (c .if1 .left))) tt
+float-to-bits-hex c = rw (number-is (self-equal (c .before .args .x) (c .if1 .left))) tt
 
 hex-requires : tie.Need-hex-requires
 hex-requires c κs = search needs
