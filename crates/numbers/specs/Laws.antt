@@ -1,14 +1,16 @@
--- Laws about floats and digits that every layer cites.
+-- In order: Kinds (what a float is), NotNan (results that are numbers), Order, Extremes, Sign, Values (a value that fits is its own rounding), Whole
+-- (comparison of whole numbers), Products, Magnitude and Signed (either sign), Sums, Credit and Elapsed (the bucket's bound), Digits.
 pub mod Kinds
-pub mod Order
 pub mod NotNan
+pub mod Order
 pub mod Extremes
 pub mod Sign
 pub mod Values
-pub mod Sums
+pub mod Whole
 pub mod Products
 pub mod Magnitude
+pub mod Signed
+pub mod Sums
 pub mod Credit
 pub mod Elapsed
 pub mod Digits
-pub mod Whole

@@ -23,13 +23,20 @@ nought = fin false 0 (pos 0)
 abbrev pub eightThousand : Float
 eightThousand = fin false 125 (pos 6)
 
+-- the powers of two that bound the debt and a packet's length: one packet more than 2 ^ 70 rounds back to it
+abbrev debtPower : ℕ
+debtPower = 70
+
+abbrev packetPower : ℕ
+packetPower = 14
+
 -- -(2 ^ 70)
 abbrev pub deepestDebt : Float
-deepestDebt = fin true 1 (pos 70)
+deepestDebt = fin true 1 (pos debtPower)
 
 -- 2 ^ 14
 abbrev pub longestPacket : Float
-longestPacket = fin false 1 (pos 14)
+longestPacket = fin false 1 (pos packetPower)
 
 -- a rate or a time: from 0 to 2 ^ 53
 pub record Bounded (x : Float) : Type 0 where
@@ -44,21 +51,21 @@ pub record Credit (x : Float) : Type 0 where
 
 -- the size of the deepest debt
 abbrev deepest : Float
-deepest = fin false 1 (pos 70)
+deepest = fin false 1 (pos debtPower)
 
 plus-credit : {x : Float} → T (fits binary64 x) → PlusFinite x → Credit x
-plus-credit h (plus-finite m e) = record { fit = h; finite = finite-fin false m e; floor = minus-le-plus 1 m (pos 70) e }
+plus-credit h (plus-finite m e) = record { fit = h; finite = finite-fin false m e; floor = minus-le-plus 1 m (pos debtPower) e }
 
 minus-credit : {x : Float} → T (fits binary64 x) → PlusFinite x → T (le x deepest) → Credit (neg x)
 unfolding neg
-minus-credit h (plus-finite m e) l = record { fit = neg-fits binary64 (fin false m e) h; finite = finite-fin true m e; floor = rw (le-neg m 1 e (pos 70)) l }
+minus-credit h (plus-finite m e) l = record { fit = neg-fits binary64 (fin false m e) h; finite = finite-fin true m e; floor = rw (le-neg m 1 e (pos debtPower)) l }
 
 -- a rounding whose size is at most 2 ^ 70 is a credit, whatever its sign
 round-credit : (s : Bool) (a c : ℕ) {y : Float} → Plus y → T (le (round binary64 false a c) y) → T (le y deepest) → Credit (round binary64 s a c)
 round-credit s a c q k l =
     let h = round-fits binary64 false a c in
-    let under = le-trans-plus (round-plus binary64 a c) q (plus-fin 1 (pos 70)) k l in
-    let clear = finite-below (round-plus binary64 a c) (finite-fin false 1 (pos 70)) under in
+    let under = le-trans-plus (round-plus binary64 a c) q (plus-fin 1 (pos debtPower)) k l in
+    let clear = finite-below (round-plus binary64 a c) (finite-fin false 1 (pos debtPower)) under in
     elim s [ false ↦ plus-credit h clear | true ↦ rw (round-neg binary64 a c) (minus-credit h clear under) ]
 
 -- ---- refilled
@@ -90,7 +97,7 @@ refill h (finite-fin true m e) l (plus-finite n g) =
     let b = n * up g * down e in
     let c = down e * down g in
     cond-has Refilled (ltb a b) (refilled (round-fits binary64 false (b - a) c) (round-plus binary64 (b - a) c))
-    (held (round-credit (ltb b a) (a - b) c (plus-fin m e) (left-below binary64 m e g b (neg-fits binary64 (fin true m e) h)) (rw (le-neg m 1 e (pos 70)) at l)))
+    (held (round-credit (ltb b a) (a - b) c (plus-fin m e) (left-below binary64 m e g b (neg-fits binary64 (fin true m e) h)) (rw (le-neg m 1 e (pos debtPower)) at l)))
 
 -- a refilled credit that is capped is a credit
 capped : {x y : Float} → Refilled x → PlusFinite y → T (fits binary64 y) → Credit (minimumOf x y)
@@ -103,15 +110,15 @@ capped endless (plus-finite n g) h = unfold lt in rw (chosen-number true (number
 charge : {x y : Float} → T (fits binary64 x) → Finite x → T (le deepestDebt x) → T (fits binary64 y) → PlusFinite y → T (le y longestPacket) → Credit (sub binary64 x y)
 unfolding sub add sum neg le
 charge h (finite-fin true m e) l k (plus-finite n g) s =
-    round-credit true (m * up e * down g + n * up g * down e) (down e * down g) (plus-fin 1 (pos 70))
-    (add-mono binary64 (plus-fin m e) (plus-fin n g) (plus-fin 1 (pos 70)) (plus-fin 1 (pos 14)) (rw (le-neg m 1 e (pos 70)) at l) s) tt
+    round-credit true (m * up e * down g + n * up g * down e) (down e * down g) (plus-fin 1 (pos debtPower))
+    (add-mono binary64 (finite-fin false m e) (finite-fin false n g) (finite-fin false 1 (pos debtPower)) (finite-fin false 1 (pos packetPower)) (rw (le-neg m 1 e (pos debtPower)) at l) s) tt
 charge h (finite-fin false m e) l k (plus-finite n g) s =
     let a = m * up e * down g in
     let b = n * up g * down e in
     let c = down e * down g in
     cond-has Credit (ltb a b)
     (round-credit true (b - a) c (plus-fin n g) (rw (mul-comm (down e) (down g)) (left-below binary64 n g e a k))
-    (le-trans-plus (plus-fin n g) (plus-fin 1 (pos 14)) (plus-fin 1 (pos 70)) s tt))
+    (le-trans-plus (plus-fin n g) (plus-fin 1 (pos packetPower)) (plus-fin 1 (pos debtPower)) s tt))
     (plus-credit (round-fits binary64 false (a - b) c) (finite-below (round-plus binary64 (a - b) c) (finite-fin false m e) (left-below binary64 m e g b h)))
 
 abbrev pub refilledOf : Float → Float → Float → Float → Float
