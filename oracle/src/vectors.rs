@@ -63,7 +63,10 @@ fn main() {
         line("next_f64", seed, (0..8).map(|_| float(rng.next_f64())));
         line("direction_seed", seed, SALTS.into_iter().map(|salt| hex(direction_seed(seed, salt))));
         let mut rng = Rng::new(seed);
-        let fold = (0..1_000_000).fold(0u64, |fold, _| (fold ^ rng.next_u64()).wrapping_mul(0x100_0000_01B3));
+        let fold = (0..1_000_000).fold(0u64, |fold, _| {
+            let seed = direction_seed(rng.next_u64(), fold);
+            (seed ^ rng.next_f64().to_bits()).wrapping_mul(0x100_0000_01B3)
+        });
         line("long_run", seed, std::iter::once(hex(fold)));
     }
     for x in FLOATS {

@@ -1,6 +1,9 @@
 ghost use mathlib.Core.Path.{_≡_};
 ghost use Rattle.draws.specs.Rng.{newOf, nextU64Of, nextF64Of};
 
+// The increment of SplitMix64, which also stands in for seed 0.
+pub const GOLDEN_GAMMA: u64 = 0x9E37_79B9_7F4A_7C15;
+
 // The generator xorshift64*.
 pub struct Rng {
     pub state: u64,
@@ -25,7 +28,7 @@ impl Rng {
     {
         if seed == 0 {
             Rng {
-                state: 0x9E37_79B9_7F4A_7C15,
+                state: GOLDEN_GAMMA,
             }
         } else {
             Rng { state: seed }

@@ -1,3 +1,4 @@
+use crate::rng::GOLDEN_GAMMA;
 ghost use mathlib.Core.Path.{_≡_};
 ghost use Rattle.draws.specs.Mix.{mixOf, directionSeedOf};
 
@@ -6,7 +7,7 @@ pub fn mix(seed: u64, salt: u64) -> u64
     ensures { λ r. ⌜ r ≡ mixOf seed salt ⌝ }
 {
     let salted = numbers::wrapping_mul(salt, 0xD1B5_4A32_D192_ED03);
-    let next = std::num::wrapping_add_u64(seed, 0x9E37_79B9_7F4A_7C15);
+    let next = std::num::wrapping_add_u64(seed, GOLDEN_GAMMA);
     let mut z = std::num::wrapping_add_u64(next, salted);
     z = numbers::wrapping_mul(z ^ (z >> 30), 0xBF58_476D_1CE4_E5B9);
     z = numbers::wrapping_mul(z ^ (z >> 27), 0x94D0_49BB_1331_11EB);

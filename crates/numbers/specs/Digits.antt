@@ -19,9 +19,9 @@ abbrev pub wholeFrom : ℕ → List ℕ → ℕ
 wholeFrom n [] = n
 wholeFrom n (b ∷ s) = wholeFrom (n * 10 + (b - 48)) s
 
-abbrev pub wholeOf : List ℕ → ℕ
-wholeOf s = wholeFrom 0 s
+abbrev pub wholeValue : List ℕ → ℕ
+wholeValue s = wholeFrom 0 s
 
 -- the float of a whole number n over 10 ^ k, one division
-unfoldable pub decimalOf : ℕ → ℕ → Float
-decimalOf n k = div binary64 (ofInt binary64 (pos n)) (ofInt binary64 (pos (10 ^ k)))
+unfoldable pub decimalValue : ℕ → ℕ → Float
+decimalValue n k = div binary64 (ofInt binary64 (pos n)) (ofInt binary64 (pos (10 ^ k)))

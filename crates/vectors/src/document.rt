@@ -1,5 +1,4 @@
 // Lines of document 01.
-use crate::floats;
 use crate::print;
 use draws::Rng;
 
@@ -17,9 +16,20 @@ pub fn seed_one() {
 
 // Which floats are instants, by refusal 21.
 pub fn instants() {
-    for i in 0..16 {
-        instant(floats::at(i));
-    }
+    instant(0.0);
+    instant(-0.0);
+    instant(5e-324);
+    instant(-5e-324);
+    instant(0.5);
+    instant(-0.5);
+    instant(9007199254740991.0);
+    instant(9007199254740992.0);
+    instant(9007199254740994.0);
+    instant(-9007199254740992.0);
+    instant(1.7976931348623157e308);
+    instant(1.0 / 0.0);
+    instant(-1.0 / 0.0);
+    instant(0.0 / 0.0);
 }
 
 fn instant(t: f64) {

@@ -66,16 +66,35 @@ fn direction_seeds(seed: u64) {
     print::hex(draws::direction_seed(seed, 0xFFFF_FFFF_FFFF_FFFF));
 }
 
-// A million outputs, folded into one number.
+// A generator on its way through a long run, and the number that its draws were folded into.
+struct Run {
+    rng: Rng,
+    fold: u64,
+}
+
+// A million outputs, draws and direction seeds, folded into one number.
 fn long_run(seed: u64) -> u64 {
-    let mut rng = Rng::new(seed);
-    let mut fold: u64 = 0;
+    let mut run = Run {
+        rng: Rng::new(seed),
+        fold: 0,
+    };
     for _ in 0..1000000u32 {
-        let drawn = rng.next_u64();
-        fold = numbers::wrapping_mul(fold ^ drawn.value, 0x100_0000_01B3);
-        rng = drawn.rng;
+        run = step(run);
     }
-    fold
+    run.fold
+}
+
+// Folds in the direction seed of the next output, with the fold as its salt, and the bits of the draw after it.
+fn step(run: Run) -> Run {
+    let fold = run.fold;
+    let output = run.rng.next_u64();
+    let draw = output.rng.next_f64();
+    let seed = draws::direction_seed(output.value, fold);
+    let rng = draw.rng;
+    Run {
+        rng,
+        fold: numbers::wrapping_mul(seed ^ f64::to_bits(draw.value), 0x100_0000_01B3),
+    }
 }
 
 // The maximum and the minimum of every pair of the floats.

@@ -8,7 +8,7 @@ use native.Mathlib.Omega.{arith}
 use borrow.Author.Tests.{leb-true}
 use lib.Dec.{leb, lit<}
 use lib.ListN.{length}
-use Rattle.numbers.specs.Digits.{isDigit, allDigits, wholeFrom, wholeOf}
+use Rattle.numbers.specs.Digits.{isDigit, allDigits, wholeFrom, wholeValue}
 
 both-true : (a b : Bool) → (a && b) ≡ true → (a ≡ true) × (b ≡ true)
 both-true true b h = (refl, h)
@@ -38,12 +38,12 @@ pub whole-digit : (s : List ℕ) (b n : ℕ) → wholeFrom n (s ++ (b ∷ [])) �
 whole-digit s b n = whole-append s (b ∷ []) n
 
 -- what was read before k digits counts 10 ^ k times
-pub whole-place : (s : List ℕ) (n : ℕ) → wholeFrom n s ≡ n * 10 ^ length s + wholeOf s
+pub whole-place : (s : List ℕ) (n : ℕ) → wholeFrom n s ≡ n * 10 ^ length s + wholeValue s
 whole-place [] n = omega arith
 whole-place (b ∷ s) n = rw (pow-suc 10 (length s)) (omega (arith, whole-place s (n * 10 + (b - 48)), whole-place s (0 * 10 + (b - 48))))
 
 -- k digits give less than 10 ^ k
-pub whole-lt : (s : List ℕ) → allDigits s ≡ true → wholeOf s < 10 ^ length s
+pub whole-lt : (s : List ℕ) → allDigits s ≡ true → wholeValue s < 10 ^ length s
 whole-lt [] h = lit< tt
 whole-lt (b ∷ s) h =
     let t = digits-cons b s h in
@@ -52,7 +52,7 @@ whole-lt (b ∷ s) h =
     rw (pow-suc 10 (length s)) (omega (arith, whole-place s (0 * 10 + (b - 48)), whole-lt s (t .1), mul-le-mul-right (10 ^ length s) most))
 
 -- and so do fewer, for every width k
-pub whole-width : (k : ℕ) (s : List ℕ) → allDigits s ≡ true → length s ≤ k → wholeOf s < 10 ^ k
+pub whole-width : (k : ℕ) (s : List ℕ) → allDigits s ≡ true → length s ≤ k → wholeValue s < 10 ^ k
 whole-width k s h l = lt-of-lt-of-le (whole-lt s h) (pow-le-pow-right (lit< tt) l)
 
 -- read on from n, k digits give from n * 10 ^ k up to what n + 1 would begin with

@@ -1,12 +1,12 @@
 -- Signed fractions: a number of sign s and size n lies `over s n` above 0 or `under s n` below it, so that orders and sums of either sign are plain arithmetic.
-use mathlib.Core.Path.{_≡_, refl, sym, ap₂, _∙_, subst}
-use mathlib.Core.Bool.{Bool, true, false, _&&_, _||_, not, cond}
+use mathlib.Core.Path.{_≡_, refl}
+use mathlib.Core.Bool.{Bool, true, false, not, cond}
 use Prim.Native.Nat.{ℕ, _+_, _-_, _*_, _<_, _≤_}
 use native.Mathlib.Nat.{mul-le-mul-left}
 use native.Mathlib.Omega.{arith}
 use lib.Dec.{T, eqb, ltb, ltb→lt, nltb→le, eqb→eq, lit<}
 use lib.IntN.{ℤ}
-use lib.Ieee.{Float, inf, fin, Format, binary32, binary64, round, sum, neg, lt, le, up, down}
+use lib.Ieee.{Float, fin, Format, binary32, binary64, round, sum, neg, le, up, down}
 use lib.Ieee.Fits.{and-l, and-r}
 use lib.Ieee.Order.{round-mono}
 use lib.Ieee.Scale.{round-same}

@@ -5,14 +5,13 @@ use Prim.Native.Nat.{ℕ, _+_, _*_, _≤_}
 use native.Mathlib.Nat.{mul-pos, zero-mul, mul-comm, mul-le-mul-right}
 use native.Mathlib.Omega.{arith}
 use lib.Dec.{T}
-use lib.IntN.{ℤ}
 use lib.Ieee.{Float, Format, round, add, le, up, down, fits}
 use lib.Ieee.Fits.{down-pos}
 use Rattle.numbers.specs.Laws.Kinds.{Finite, finite-fin, Plus, plus-inf, plus-fin}
 use Rattle.numbers.specs.Laws.NotNan.{add-plus}
 use Rattle.numbers.specs.Laws.Order.{le-inf}
 use Rattle.numbers.specs.Laws.Values.{round-own}
-use Rattle.numbers.specs.Laws.Signed.{over, under, SignedLe, le→signed, round-signed, Summed, summed}
+use Rattle.numbers.specs.Laws.Signed.{over, under, le→signed, round-signed, summed}
 
 over-mul : (s : Bool) (n k : ℕ) → over s (n * k) ≡ over s n * k
 over-mul true n k = sym (zero-mul k)

@@ -5,10 +5,10 @@ use Rattle.vectors.proofs.oracle.long_run.Statement.{statement}
 use Rattle.vectors.proofs.oracle.long_run.Tie as tie
 
 abbrev Inv-loop : tie.InvT-loop
-Inv-loop seed rng₀ fold₀ counter₀ rng fold counter = counter ≤ 1000000
+Inv-loop seed run₀ counter₀ run counter = counter ≤ 1000000
 
 abbrev μ-loop : tie.MeasureT-loop
-μ-loop seed rng₀ fold₀ counter₀ rng fold counter = 1000000 - counter
+μ-loop seed run₀ counter₀ run counter = 1000000 - counter
 
 new-requires : tie.Need-new-requires Inv-loop μ-loop
 new-requires c κs = search needs
@@ -16,11 +16,8 @@ new-requires c κs = search needs
 loop-holds : tie.Need-loop-holds Inv-loop μ-loop
 loop-holds c = search needs
 
-next-u64-requires : tie.Need-next-u64-requires Inv-loop μ-loop
-next-u64-requires c κs = search needs
-
-wrapping-mul-requires : tie.Need-wrapping-mul-requires Inv-loop μ-loop
-wrapping-mul-requires c κs = search needs
+step-requires : tie.Need-step-requires Inv-loop μ-loop
+step-requires c κs = search needs
 
 add-counter : tie.Need-add-counter Inv-loop μ-loop
 add-counter c = search needs
@@ -42,8 +39,7 @@ long-run-spec =
     μ-loop
     new-requires
     loop-holds
-    next-u64-requires
-    wrapping-mul-requires
+    step-requires
     add-counter
     loop-less
     loop-again
