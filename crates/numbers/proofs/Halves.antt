@@ -16,7 +16,10 @@ pub halves : (k a b : ℕ) → let B = 2 ^ k in ((a / B * (b % B) + a % B * (b /
 halves k a b =
     let B = 2 ^ k in
     let x = a / B * (b % B) + a % B * (b / B) in
+    let low = x % B * B + a % B * (b % B) in
+    let high = a / B * (b / B) + x / B in
     ap (λ (z : ℕ). (z * B + a % B * (b % B)) % 2 ^ (k + k)) (mod-mod-pow x k k)
-    ∙ sym (mul-add-mod-self-right (a / B * (b / B) + x / B) (2 ^ (k + k)) (x % B * B + a % B * (b % B)))
-    ∙ ap (λ (z : ℕ). ((a / B * (b / B) + x / B) * z + (x % B * B + a % B * (b % B))) % 2 ^ (k + k)) (pow-add 2 k k)
-    ∙ ap (λ (z : ℕ). z % 2 ^ (k + k)) (sym (expand B (a / B) (a % B) (b / B) (b % B) x (x / B) (x % B) refl (div-add-mod' x B)) ∙ ap₂ (λ (y z : ℕ). y * z) (div-add-mod' a B) (div-add-mod' b B))
+    ∙ sym (mul-add-mod-self-right high (2 ^ (k + k)) low)
+    ∙ ap (λ (z : ℕ). (high * z + low) % 2 ^ (k + k)) (pow-add 2 k k)
+    ∙ ap (λ (z : ℕ). z % 2 ^ (k + k)) (sym (expand B (a / B) (a % B) (b / B) (b % B) x (x / B) (x % B) refl (div-add-mod' x B)))
+    ∙ ap₂ (λ (y z : ℕ). y * z % 2 ^ (k + k)) (div-add-mod' a B) (div-add-mod' b B)

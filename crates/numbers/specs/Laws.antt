@@ -1,5 +1,5 @@
 -- In order: Kinds (what a float is), NotNan (results that are numbers), Order, Extremes, Sign, Values (a value that fits is its own rounding), Whole
--- (comparison of whole numbers), Products, Magnitude and Signed (either sign), Sums, Credit and Elapsed (the bucket's bound), Digits.
+-- (comparison of whole numbers), Bounded (times and rates), Products, Magnitude and Signed (either sign), Sums, Credit and Elapsed (the bucket's bound), Digits.
 pub mod Kinds
 pub mod NotNan
 pub mod Order
@@ -7,6 +7,7 @@ pub mod Extremes
 pub mod Sign
 pub mod Values
 pub mod Whole
+pub mod Bounded
 pub mod Products
 pub mod Magnitude
 pub mod Signed

@@ -42,7 +42,8 @@ pub scaled-exact : (w k : ℕ) → w ≤ 53 → k < 2 ^ w → HasValue (mul bina
 unfolding ofInt
 scaled-exact w k h l =
     let v : HasValue (round binary64 false k 1) false k 1 = round-whole binary64 false k (le-of-lt (lt-of-lt-of-le l (pow-mono h))) in
-    rw (mul-values binary64 k 1 1 (2 ^ w) (value-plus _ k 1 v) (value-plus _ 1 (2 ^ w) (power-value w)) (lit< tt) (pow-pos w) v (power-value w), mul-one k, one-mul (2 ^ w)) (quotient-exact w k h l)
+    let p = power-value w in
+    rw (mul-values binary64 k 1 1 (2 ^ w) (value-plus _ k 1 v) (value-plus _ 1 (2 ^ w) p) (lit< tt) (pow-pos w) v p, mul-one k, one-mul (2 ^ w)) (quotient-exact w k h l)
 
 pub fraction-exact : (w x : ℕ) → w ≤ 53 → x < 2 ^ 64 → HasValue (fractionOf w x) false (topBits w x) (2 ^ w)
 unfolding fractionOf

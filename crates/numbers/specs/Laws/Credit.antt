@@ -8,17 +8,14 @@ use lib.IntN.{ℤ, pos}
 use lib.Ieee.{Float, inf, fin, binary64, round, add, sum, sub, mul, div, neg, lt, le, up, down, fits}
 use lib.Ieee.Fits.{round-fits, neg-fits, add-fits}
 use Rattle.numbers.specs.Extremes.{minimumOf}
-use Rattle.numbers.specs.Instant.{lastInstant}
 use Rattle.numbers.specs.Laws.Kinds.{Finite, finite-fin, Plus, plus-inf, plus-fin, PlusFinite, plus-finite, number-inf, number-fin, plus-finite-plus}
 use Rattle.numbers.specs.Laws.NotNan.{cond-has, round-plus, add-plus, mul-plus, div-plus}
 use Rattle.numbers.specs.Laws.Order.{le-trans-plus}
 use Rattle.numbers.specs.Laws.Extremes.{chosen-has, chosen-number}
 use Rattle.numbers.specs.Laws.Sums.{add-mono}
 use Rattle.numbers.specs.Laws.Products.{finite-below, mul-mono, div-mono}
+use Rattle.numbers.specs.Laws.Bounded.{Bounded, nought}
 use Rattle.numbers.specs.Laws.Magnitude.{minus-le-plus, round-neg, le-neg, left-below}
-
-abbrev pub nought : Float
-nought = fin false 0 (pos 0)
 
 abbrev pub eightThousand : Float
 eightThousand = fin false 125 (pos 6)
@@ -37,11 +34,6 @@ deepestDebt = fin true 1 (pos debtPower)
 -- 2 ^ 14
 abbrev pub longestPacket : Float
 longestPacket = fin false 1 (pos packetPower)
-
--- a rate or a time: from 0 to 2 ^ 53
-pub record Bounded (x : Float) : Type 0 where
-  pub clear : PlusFinite x
-  pub small : T (le x lastInstant)
 
 -- a finite value of the format, not below -(2 ^ 70)
 pub record Credit (x : Float) : Type 0 where

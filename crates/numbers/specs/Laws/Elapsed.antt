@@ -7,7 +7,7 @@ use native.Mathlib.Omega.{arith}
 use lib.Dec.{T, ltb, ltb→lt, lt→ltb}
 use lib.Pow.{pow-pos, pow-add}
 use lib.IntN.{ℤ, pos, negsuc}
-use lib.Ieee.{Float, fin, Format, binary64, round, add, sum, sub, neg, lt, le, up, down, fits, low}
+use lib.Ieee.{Float, fin, binary64, round, add, sum, sub, neg, lt, le, up, down, fits}
 use lib.Ieee.Fits.{down-pos}
 use lib.Ieee.Order.{round-mono}
 use lib.Ieee.Positive.{first-pos}
@@ -21,12 +21,15 @@ use Rattle.numbers.specs.Laws.Extremes.{chosen-has, chosen-number}
 use Rattle.numbers.specs.Laws.Values.{fits-parts, low-exp, restore}
 use Rattle.numbers.specs.Laws.Products.{finite-below}
 use Rattle.numbers.specs.Laws.Magnitude.{round-neg, left-below}
-use Rattle.numbers.specs.Laws.Credit.{Bounded, nought}
+use Rattle.numbers.specs.Laws.Bounded.{Bounded, nought, nought-bounded}
 
 -- a value that fits is a whole multiple of the format's smallest one
-fits-multiple : (f : Format) (e : ℤ) → down e ≤ 2 ^ low f → down e ∣ 2 ^ low f
-fits-multiple f (pos k) h = one-dvd (2 ^ low f)
-fits-multiple f (negsuc k) h = let i = suc k in rw (← pow-add 2 (low f - i) i, restore i (low f) (low-exp i (low f) h)) at (dvd-mul-left (2 ^ i) (2 ^ (low f - i)))
+multiple : (l : ℕ) (e : ℤ) → down e ≤ 2 ^ l → down e ∣ 2 ^ l
+multiple l (pos k) h = one-dvd (2 ^ l)
+multiple l (negsuc k) h = let i = suc k in rw (← pow-add 2 (l - i) i, restore i l (low-exp i l h)) at (dvd-mul-left (2 ^ i) (2 ^ (l - i)))
+
+fits-multiple : (m : ℕ) (e : ℤ) → T (fits binary64 (fin false m e)) → down e ∣ 2 ^ 1074
+fits-multiple m e h = multiple 1074 e (fits-parts binary64 false m e h .fine)
 
 -- so is a difference of two: above 0, it is at least one of them
 gap : (p q D G L : ℕ) → D ∣ L → G ∣ L → 0 < L → p * G < q * D → 1 * (D * G) ≤ (q * D - p * G) * L
@@ -48,7 +51,7 @@ not-lost : (m n : ℕ) (e g : ℤ) → T (fits binary64 (fin false m e)) → T (
 not-lost m n e g h k l =
     rw (← smallest-is)
     (round-mono binary64 1 (2 ^ 1074) (n * up g * down e - m * up e * down g) (down e * down g) (pow-pos 1074) (mul-pos (down-pos e) (down-pos g))
-    (gap (m * up e) (n * up g) (down e) (down g) (2 ^ 1074) (fits-multiple binary64 e (fits-parts binary64 false m e h .fine)) (fits-multiple binary64 g (fits-parts binary64 false n g k .fine)) (pow-pos 1074) l))
+    (gap (m * up e) (n * up g) (down e) (down g) (2 ^ 1074) (fits-multiple m e h) (fits-multiple n g k) (pow-pos 1074) l))
 
 -- the negative of a positive value is below zero
 minus-below : {x : Float} → Plus x → T (le smallest x) → T (lt (neg x) nought)
@@ -58,10 +61,6 @@ minus-below (plus-fin m e) h = lt→ltb 0 (m * up e * 1 + 0 * 1 * down e) (some 
   where
     some : (a d k : ℕ) → 0 < d → 1 * 1 * d ≤ a * k → 0 < a * 1 + 0 * 1 * d
     some a d k h l = omega (arith, first-pos a k (omega arith))
-
-nought-bounded : Bounded nought
-unfolding le
-nought-bounded = record { clear = plus-finite 0 (pos 0); small = tt }
 
 -- of a number below 0 and 0 the maximum is 0
 nought-above : {x : Float} → Number x → T (lt x nought) → maximumOf x nought ≡ nought
@@ -75,7 +74,9 @@ since h k (plus-finite m e) (plus-finite n g) s =
     let c = down e * down g in
     let under = left-below binary64 m e g b h in
     cond-when (λ (z : Float). Bounded (maximumOf z nought)) (ltb a b)
-    (λ t. rw (nought-above (round-number binary64 true (b - a) c) (rw (round-neg binary64 (b - a) c) (minus-below (round-plus binary64 (b - a) c) (not-lost m n e g h k (ltb→lt a b t))))) nought-bounded)
+    (λ t.
+    let below : T (lt (round binary64 true (b - a) c) nought) = rw (round-neg binary64 (b - a) c) (minus-below (round-plus binary64 (b - a) c) (not-lost m n e g h k (ltb→lt a b t))) in
+    rw (nought-above (round-number binary64 true (b - a) c) below) nought-bounded)
     (chosen-has Bounded (lt (round binary64 false (a - b) c) nought) (record {
       clear = finite-below (round-plus binary64 (a - b) c) (finite-fin false m e) under;
       small = le-trans-plus (round-plus binary64 (a - b) c) (plus-fin m e) (plus-fin 1 (pos 53)) under s;

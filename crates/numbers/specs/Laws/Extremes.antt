@@ -1,7 +1,7 @@
 -- A maximum or a minimum is one of its operands, and which one.
-use mathlib.Core.Path.{_≡_, refl}
+use mathlib.Core.Path.{_≡_}
 use mathlib.Core.Bool.{Bool, cond}
-use lib.Ieee.{Float, nan, isNan}
+use lib.Ieee.{Float, isNan}
 use Rattle.numbers.specs.Extremes.{chosenOf}
 use Rattle.numbers.specs.Laws.Kinds.{Number, number-is}
 use Rattle.numbers.specs.Laws.NotNan.{cond-has}
@@ -15,7 +15,3 @@ chosen-has P b {x} {y} p q = cond-has P (isNan x) q (cond-has P (isNan y) p (con
 pub chosen-number : (b : Bool) {x y : Float} → Number x → Number y → chosenOf b x y ≡ cond b y x
 unfolding chosenOf
 chosen-number b p q = rw (number-is p, number-is q)
-
-pub chosen-nan : (b : Bool) (y : Float) → chosenOf b nan y ≡ y
-unfolding chosenOf isNan
-chosen-nan b y = refl

@@ -7,8 +7,6 @@ use lib.IntN.{ℤ}
 use lib.Ieee.{Float, nan, inf, fin, isNan, eq, ne, up, down}
 use lib.Ieee.Bits.{is-true}
 use lib.Ieee.Exact.{HasValue}
-use lib.Ieee.Scale.{finite}
-use Rattle.numbers.specs.Instant.{signBit}
 
 -- no NaN
 pub data Number : Float → Type 0 where
@@ -39,25 +37,12 @@ unfolding isNan
 number-is (number-inf s) = refl
 number-is (number-fin s m e) = refl
 
-pub plus-of : {x : Float} → Number x → signBit x ≡ false → Plus x
-plus-of (number-inf true) h = absurd (true≢false h)
-plus-of (number-inf false) h = plus-inf
-plus-of (number-fin true m e) h = absurd (true≢false h)
-plus-of (number-fin false m e) h = plus-fin m e
-
-pub plus-finite-of : {x : Float} → Plus x → T (finite x) → PlusFinite x
-plus-finite-of plus-inf h = absurd h
-plus-finite-of (plus-fin m e) h = plus-finite m e
-
 pub finite-number : {x : Float} → Finite x → Number x
 finite-number (finite-fin s m e) = number-fin s m e
 
 pub plus-number : {x : Float} → Plus x → Number x
 plus-number plus-inf = number-inf false
 plus-number (plus-fin m e) = number-fin false m e
-
-pub plus-finite-finite : {x : Float} → PlusFinite x → Finite x
-plus-finite-finite (plus-finite m e) = finite-fin false m e
 
 pub plus-finite-number : {x : Float} → PlusFinite x → Number x
 plus-finite-number (plus-finite m e) = number-fin false m e

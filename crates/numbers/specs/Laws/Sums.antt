@@ -45,11 +45,18 @@ unfolding add
 add-mono f (finite-fin s m e) (finite-fin t n g) (finite-fin p o i) (finite-fin q w j) h k =
     let first = summed f s (m * up e * down g) t (n * up g * down e) (down e * down g) in
     let second = summed f p (o * up i * down j) q (w * up j * down i) (down i * down j) in
+    let a = first .sign in
+    let b = second .sign in
+    let z = first .size in
+    let y = second .size in
     rw (first .is, second .is)
-    (round-signed f (first .sign) (second .sign) (first .size) (second .size) (down e * down g) (down i * down j) (mul-pos (down-pos e) (down-pos g)) (mul-pos (down-pos i) (down-pos j))
+    (round-signed f a b z y (down e * down g) (down i * down j) (mul-pos (down-pos e) (down-pos g)) (mul-pos (down-pos i) (down-pos j))
     (simp (over-mul, under-mul)
-    (grown _ _ _ _ _ _ _ _ (over (first .sign) (first .size)) (under (first .sign) (first .size)) (over (second .sign) (second .size)) (under (second .sign) (second .size)) (down e) (down g) (down i) (down j)
-    (simp (over-mul, under-mul) at (le→signed s p m o e i h)) (simp (over-mul, under-mul) at (le→signed t q n w g j k)) (simp (over-mul, under-mul) at (first .value)) (simp (over-mul, under-mul) at (second .value)))))
+    (grown _ _ _ _ _ _ _ _ (over a z) (under a z) (over b y) (under b y) (down e) (down g) (down i) (down j)
+    (simp (over-mul, under-mul) at (le→signed s p m o e i h))
+    (simp (over-mul, under-mul) at (le→signed t q n w g j k))
+    (simp (over-mul, under-mul) at (first .value))
+    (simp (over-mul, under-mul) at (second .value)))))
 
 -- the same where a summand may be +∞
 pub add-mono-plus : (f : Format) {x y u v : Float} → Plus x → Plus y → Plus u → Plus v → T (le x u) → T (le y v) → T (le (add f x y) (add f u v))

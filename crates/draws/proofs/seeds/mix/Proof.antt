@@ -31,10 +31,12 @@ summed seed salt = sym (add-mod (seed + goldenGamma) (salt * 0xD1B54A32D192ED03)
 returns : tie.Need-returns
 unfolding mixOf mix64Of
 returns c =
-    let start = c .before .before .before .before .before .args in
-    let z = c .before .before .wrapping-add-u642 .result in
-    let is : z ≡ (start .seed + goldenGamma + start .salt * 0xD1B54A32D192ED03) % 2 ^ 64 =
-    rw (c .before .before .wrapping-add-u642 .ensures, c .before .before .before .wrapping-add-u64 .ensures, c .before .before .before .before .wrapping-mul .ensures) (summed (start .seed) (start .salt)) in
+    let sum = c .before .before in
+    let next = sum .before in
+    let salted = next .before in
+    let start = salted .before .args in
+    let is : sum .wrapping-add-u642 .result ≡ (start .seed + goldenGamma + start .salt * 0xD1B54A32D192ED03) % 2 ^ 64 =
+    rw (sum .wrapping-add-u642 .ensures, next .wrapping-add-u64 .ensures, salted .wrapping-mul .ensures) (summed (start .seed) (start .salt)) in
     rw (c .wrapping-mul3 .ensures, c .before .wrapping-mul2 .ensures) (ap mix64Of is)
 
 pub mix-spec : {M : Type 1} → statement M
