@@ -3,7 +3,7 @@ use borrow.Author.Needs.{needs}
 use mathlib.Core.Path.{_≡_, sym, ap}
 use Prim.Native.Nat.{ℕ, _+_, _*_, _%_, _^_}
 use native.Mathlib.Nat.{add-mod}
-use Rattle.numbers.specs.Wrapping.{wrappingAddOf, wrappingMulOf}
+use Rattle.numbers.specs.Wrapping.{wrappingMulOf}
 use Rattle.draws.specs.Shifts.{goldenGamma}
 use Rattle.draws.specs.Mix.{mix64Of, mixOf}
 use Rattle.draws.proofs.seeds.mix.Statement.{statement}
@@ -25,7 +25,7 @@ wrapping-mul-requires-3 : tie.Need-wrapping-mul-requires-3
 wrapping-mul-requires-3 c κs = search needs
 
 -- the sum as the code makes it
-summed : (seed salt : ℕ) → wrappingAddOf (wrappingAddOf seed goldenGamma) (wrappingMulOf salt 0xD1B54A32D192ED03) ≡ (seed + goldenGamma + salt * 0xD1B54A32D192ED03) % 2 ^ 64
+summed : (seed salt : ℕ) → ((seed + goldenGamma) % 2 ^ 64 + wrappingMulOf salt 0xD1B54A32D192ED03) % 2 ^ 64 ≡ (seed + goldenGamma + salt * 0xD1B54A32D192ED03) % 2 ^ 64
 summed seed salt = sym (add-mod (seed + goldenGamma) (salt * 0xD1B54A32D192ED03) (2 ^ 64))
 
 returns : tie.Need-returns
