@@ -3,7 +3,7 @@ use Prim.Native.Nat.{ℕ, _+_, _*_, _%_, _^_}
 use Rattle.numbers.specs.Wrapping.{wrappingMulOf}
 use Rattle.draws.specs.Shifts.{xorShiftRight, goldenGamma}
 
--- the finalizer
+-- the finalizer, with the shifts and multipliers of the source
 unfoldable pub mix64Of : ℕ → ℕ
 mix64Of z = xorShiftRight (wrappingMulOf (xorShiftRight (wrappingMulOf (xorShiftRight z 30) 0xBF58476D1CE4E5B9) 27) 0x94D049BB133111EB) 31
 

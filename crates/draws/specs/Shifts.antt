@@ -14,6 +14,6 @@ xorShiftLeft x k = bitXor x (x * 2 ^ k % 2 ^ 64)
 abbrev pub topBits : ℕ → ℕ → ℕ
 topBits w x = x / 2 ^ (64 - w)
 
--- 2 ^ 64 over the golden ratio, made odd: SplitMix64's increment
+-- the whole part of 2 ^ 64 over the golden ratio: SplitMix64's increment
 abbrev pub goldenGamma : ℕ
 goldenGamma = 0x9E3779B97F4A7C15

@@ -1,4 +1,4 @@
-// Outputs of the papers' generators, as published.
+// Outputs of the papers' generators that were given to the project: neither the port nor the Rust made them.
 use crate::print;
 use draws::Rng;
 

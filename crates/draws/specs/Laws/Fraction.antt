@@ -10,10 +10,9 @@ use lib.Pow.{pow-pos, pow-add, pow-mono, shl-lt}
 use lib.IntN.{pos}
 use lib.Ieee.{binary64, mul, ofInt, round, lt}
 use lib.Ieee.Exact.{HasValue, round-exact}
-use lib.Ieee.Back.{round-whole}
 use Rattle.numbers.specs.Laws.Kinds.{PlusFinite, value-plus}
 use Rattle.numbers.specs.Laws.Products.{mul-values}
-use Rattle.numbers.specs.Laws.Whole.{lt-values}
+use Rattle.numbers.specs.Laws.Whole.{lt-values, whole-value}
 use Rattle.draws.specs.declared.rng.Rng.{Rng}
 use Rattle.draws.specs.Shifts.{topBits}
 use Rattle.draws.specs.Rng.{powerBelow, fractionOf, outputOf, nextF64Of}
@@ -39,9 +38,8 @@ power-value (suc k) = (refl, refl)
 
 -- the shared fact of every width
 pub scaled-exact : (w k : ℕ) → w ≤ 53 → k < 2 ^ w → HasValue (mul binary64 (ofInt binary64 (pos k)) (powerBelow w)) false k (2 ^ w)
-unfolding ofInt
 scaled-exact w k h l =
-    let v : HasValue (round binary64 false k 1) false k 1 = round-whole binary64 false k (le-of-lt (lt-of-lt-of-le l (pow-mono h))) in
+    let v = whole-value binary64 k (le-of-lt (lt-of-lt-of-le l (pow-mono h))) in
     let p = power-value w in
     rw (mul-values binary64 k 1 1 (2 ^ w) (value-plus _ k 1 v) (value-plus _ 1 (2 ^ w) p) (lit< tt) (pow-pos w) v p, mul-one k, one-mul (2 ^ w)) (quotient-exact w k h l)
 

@@ -55,7 +55,7 @@ whole-lt (b ∷ s) h =
 pub whole-width : (k : ℕ) (s : List ℕ) → allDigits s ≡ true → length s ≤ k → wholeValue s < 10 ^ k
 whole-width k s h l = lt-of-lt-of-le (whole-lt s h) (pow-le-pow-right (lit< tt) l)
 
--- read on from n, k digits give from n * 10 ^ k up to what n + 1 would begin with
+-- k digits read on from n give less than n + 1 with k zeros behind it
 pub whole-from-lt : (s : List ℕ) (n : ℕ) → allDigits s ≡ true → wholeFrom n s < (n + 1) * 10 ^ length s
 whole-from-lt s n h = omega (arith, whole-place s n, whole-lt s h)
 

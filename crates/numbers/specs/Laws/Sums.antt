@@ -28,6 +28,7 @@ scaled-le a b c d I E k h = omega (arith, mul-le-mul-right k h)
 scaled-sum : (a b c d e f G E I J : ℕ) → a + b * G + c * E ≡ d + e * G + f * E → a * (I * J) + b * I * (G * J) + c * J * (E * I) ≡ d * (I * J) + e * I * (G * J) + f * J * (E * I)
 scaled-sum a b c d e f G E I J h = omega (arith, ap (λ (n : ℕ). n * (I * J)) h)
 
+-- the differences a - a' and b - b' add up to z - z', and c - c' and d - d' to w - w'
 linear : (a a' b b' c c' d d' z z' w w' : ℕ) → a + c' ≤ c + a' → b + d' ≤ d + b' → z + a' + b' ≡ z' + a + b → w + c' + d' ≡ w' + c + d → z + w' ≤ w + z'
 linear a a' b b' c c' d d' z z' w w' h k p q = omega arith
 

@@ -11,11 +11,12 @@ use Rattle.numbers.specs.Laws.Sign.{sign-of-bits}
 use Rattle.numbers.proofs.instant.is_instant.Statement.{statement}
 use Rattle.numbers.proofs.instant.is_instant.Tie as tie
 
-compared : (t : Float) → le t lastInstant ≡ true → Number t
+-- what is at most anything is a number
+compared : (t y : Float) → le t y ≡ true → Number t
 unfolding le
-compared nan h = absurd (true≢false (sym h))
-compared (inf s) h = number-inf s
-compared (fin s m e) h = number-fin s m e
+compared nan y h = absurd (true≢false (sym h))
+compared (inf s) y h = number-inf s
+compared (fin s m e) y h = number-fin s m e
 
 bound : Number lastInstant
 bound = number-fin false 1 _
@@ -32,7 +33,7 @@ or-true false = refl
 within : (t : Float) → T (fits binary64 t) → le t lastInstant ≡ true → ltb (toBits binary64 t) (2 ^ 63) ≡ isInstantOf t
 unfolding isInstantOf
 within t f h =
-    let n = compared t h in
+    let n = compared t lastInstant h in
     rw (number-is n, lt-is-not-le n bound, h, sign-of-bits binary64 f n) (ltb-is-not-leb (toBits binary64 t) (2 ^ 63) ∙ ap not (sym (or-false (leb (2 ^ 63) (toBits binary64 t)))))
 
 -- for one above it, and for NaN
@@ -44,7 +45,7 @@ beyond (fin s m e) h = rw (lt-is-not-le (number-fin s m e) bound, h) (or-true s)
 
 float-to-bits-result : tie.Need-float-to-bits-result
 unfolding ofBits
-float-to-bits-result c = rw (number-is (compared (c .before .args .t) (c .if1 .taken))) tt
+float-to-bits-result c = rw (number-is (compared (c .before .args .t) _ (c .if1 .taken))) tt
 
 returns : tie.Need-returns
 unfolding ofBits
