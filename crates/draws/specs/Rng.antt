@@ -4,7 +4,8 @@ use mathlib.Core.Bool.{false, cond}
 use Prim.Native.Nat.{ℕ, zero, suc}
 use lib.Dec.{eqb}
 use lib.IntN.{pos, negsuc}
-use lib.Ieee.{Float, fin, binary64, mul, ofInt}
+use lib.Ieee.{Float, fin, binary64, mul}
+use Rattle.numbers.specs.Whole.{whole}
 use Rattle.numbers.specs.Wrapping.{wrappingMulOf}
 use Rattle.draws.specs.declared.rng.Rng.{Rng}
 use Rattle.draws.specs.declared.rng.DrawU64.{DrawU64}
@@ -33,7 +34,7 @@ powerBelow (suc k) = fin false 1 (negsuc k)
 
 -- the top w bits of x times 2 ^ -w
 unfoldable pub fractionOf : ℕ → ℕ → Float
-fractionOf w x = mul binary64 (ofInt binary64 (pos (topBits w x))) (powerBelow w)
+fractionOf w x = mul binary64 (whole (topBits w x)) (powerBelow w)
 
 -- "A draw is the top 53 bits of the output times 2^-53, exactly."
 unfoldable pub nextF64Of : Rng → DrawF64

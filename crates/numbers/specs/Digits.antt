@@ -3,8 +3,8 @@ use mathlib.Core.Bool.{Bool, true, _&&_}
 use mathlib.Core.List.{List, [], _∷_}
 use Prim.Native.Nat.{ℕ, _+_, _-_, _*_, _^_}
 use lib.Dec.{leb}
-use lib.IntN.{pos}
-use lib.Ieee.{Float, binary64, ofInt, div}
+use lib.Ieee.{Float, binary64, div}
+use Rattle.numbers.specs.Whole.{whole}
 
 -- the bytes 48 to 57 are the digits 0 to 9
 abbrev pub isDigit : ℕ → Bool
@@ -24,4 +24,4 @@ wholeValue s = wholeFrom 0 s
 
 -- the float of a whole number n over 10 ^ k, one division
 unfoldable pub decimalValue : ℕ → ℕ → Float
-decimalValue n k = div binary64 (ofInt binary64 (pos n)) (ofInt binary64 (pos (10 ^ k)))
+decimalValue n k = div binary64 (whole n) (whole (10 ^ k))

@@ -15,3 +15,4 @@ pub mod Sums
 pub mod Credit
 pub mod Elapsed
 pub mod Digits
+pub mod Limits

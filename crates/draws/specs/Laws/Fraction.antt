@@ -7,9 +7,9 @@ use native.Mathlib.Omega.{arith}
 use borrow.Author.Tests.{lt-ltb}
 use lib.Dec.{lit≤, lit<}
 use lib.Pow.{pow-pos, pow-add, pow-mono, shl-lt}
-use lib.IntN.{pos}
-use lib.Ieee.{binary64, mul, ofInt, round, lt}
+use lib.Ieee.{binary64, mul, round, lt}
 use lib.Ieee.Exact.{HasValue, round-exact}
+use Rattle.numbers.specs.Whole.{whole}
 use Rattle.numbers.specs.Laws.Kinds.{PlusFinite, value-plus}
 use Rattle.numbers.specs.Laws.Products.{mul-values}
 use Rattle.numbers.specs.Laws.Whole.{lt-values, whole-value}
@@ -37,7 +37,7 @@ power-value zero = (refl, refl)
 power-value (suc k) = (refl, refl)
 
 -- the shared fact of every width
-pub scaled-exact : (w k : ℕ) → w ≤ 53 → k < 2 ^ w → HasValue (mul binary64 (ofInt binary64 (pos k)) (powerBelow w)) false k (2 ^ w)
+pub scaled-exact : (w k : ℕ) → w ≤ 53 → k < 2 ^ w → HasValue (mul binary64 (whole k) (powerBelow w)) false k (2 ^ w)
 scaled-exact w k h l =
     let v = whole-value binary64 k (le-of-lt (lt-of-lt-of-le l (pow-mono h))) in
     let p = power-value w in

@@ -5,7 +5,8 @@ use Prim.Native.Nat.{ℕ, _*_, _^_, _≤_}
 use native.Mathlib.Omega.{arith}
 use lib.Dec.{T, le→leb, lit<}
 use lib.IntN.{pos}
-use lib.Ieee.{Float, nan, inf, fin, binary64, ofInt, isNan, lt, le}
+use lib.Ieee.{Float, nan, inf, fin, binary64, isNan, lt, le}
+use Rattle.numbers.specs.Whole.{whole}
 use Rattle.numbers.specs.Instant.{lastInstant, isInstantOf}
 use Rattle.numbers.specs.Laws.Kinds.{PlusFinite, plus-finite, value-plus, Number, number-inf, number-fin}
 use Rattle.numbers.specs.Laws.Order.{lt-is-not-le}
@@ -39,7 +40,7 @@ instant-bounded (fin true m e) h = absurd (true≢false (sym h))
 instant-bounded (fin false m e) h = record { clear = plus-finite m e; small = not-above (number-fin false m e) h }
 
 -- a whole number up to 2 ^ 53
-pub whole-bounded : (n : ℕ) → n ≤ 2 ^ 53 → Bounded (ofInt binary64 (pos n))
+pub whole-bounded : (n : ℕ) → n ≤ 2 ^ 53 → Bounded (whole n)
 whole-bounded n h =
     let v = whole-value binary64 n h in
     record {

@@ -1,0 +1,19 @@
+-- The buckets of a histogram of latencies.
+use mathlib.Core.Bool.{cond}
+use mathlib.Core.List.{List, [], _∷_, map}
+use Prim.Native.Nat.{ℕ, suc}
+use lib.Ieee.{Float, lt}
+use Rattle.numbers.specs.Whole.{whole}
+
+-- the bounds in milliseconds, from stats.rs
+unfoldable pub bounds : List Float
+bounds = map whole (1 ∷ 2 ∷ 5 ∷ 10 ∷ 20 ∷ 50 ∷ 100 ∷ 200 ∷ 500 ∷ 1000 ∷ 5000 ∷ [])
+
+-- the place of the first bound above the latency, and the number of bounds where none is above it
+abbrev pub firstAbove : Float → List Float → ℕ
+firstAbove x [] = 0
+firstAbove x (b ∷ bs) = cond (lt x b) 0 (suc (firstAbove x bs))
+
+-- "bucket_index gives the first bound above the latency, 11 for NaN or ≥ 5000."
+unfoldable pub bucketIndexOf : Float → ℕ
+bucketIndexOf x = firstAbove x bounds
