@@ -1,3 +1,6 @@
 pub mod Buckets
 pub mod Counters
 pub mod Sums
+pub mod Histogram
+pub mod Merged
+pub mod Calls

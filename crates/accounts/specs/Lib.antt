@@ -7,4 +7,5 @@ pub mod Stats
 pub mod Accountant
 pub mod Counters
 pub mod Calls
+pub mod Lines
 pub mod Laws

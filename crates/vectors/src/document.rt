@@ -32,9 +32,26 @@ pub fn instants() {
     instant(0.0 / 0.0);
 }
 
+// The buckets of document 01's latencies.
+pub fn buckets() {
+    bucket(0.5);
+    bucket(1.0);
+    bucket(4999.0);
+    bucket(5000.0);
+    bucket(-3.0);
+    bucket(0.0 / 0.0);
+}
+
 fn instant(t: f64) {
     print::text(b"instant");
     print::float(t);
     print::flag(numbers::is_instant(t));
+    print::end();
+}
+
+fn bucket(latency_ms: f64) {
+    print::text(b"bucket");
+    print::float(latency_ms);
+    print::count(accounts::bucket_index(latency_ms) as u64);
     print::end();
 }

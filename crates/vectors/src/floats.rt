@@ -26,3 +26,10 @@ pub fn at(i: usize) -> f64 {
         0.0 / 0.0
     }
 }
+
+// Where eight of them stand: both zeros, 0.1, 1, -1, infinities, NaN.
+const EDGES: [usize; 8] = [0, 1, 4, 6, 7, 13, 14, 15];
+
+pub fn edge(i: usize) -> f64 {
+    at(EDGES[i % 8])
+}

@@ -1,15 +1,33 @@
 // Runs vectors from outside and prints what the port makes of them; the file stdout has what is expected.
+mod accounts_run;
 mod document;
 mod floats;
-mod oracle;
+mod latencies;
+mod oracle_accounts;
+mod oracle_draws;
 mod papers;
 mod print;
+mod records;
+mod refusals;
 
 fn main() {
     papers::splitmix64();
     papers::xorshift64star();
     document::seed_one();
     document::instants();
-    oracle::draws();
-    oracle::extremes();
+    document::buckets();
+    refusals::lengths();
+    refusals::sends();
+    refusals::deliveries();
+    refusals::merges();
+    oracle_draws::draws();
+    oracle_draws::extremes();
+    oracle_accounts::first_latencies();
+    oracle_accounts::forwards();
+    oracle_accounts::backwards();
+    oracle_accounts::states();
+    oracle_accounts::merges();
+    oracle_accounts::full_records();
+    oracle_accounts::totals();
+    oracle_accounts::long_runs();
 }

@@ -13,6 +13,12 @@ pub fn decimal(n: u64) {
     io::print_decimal(STDOUT_FILENO, n);
 }
 
+// A blank and the number in decimal.
+pub fn count(n: u64) {
+    text(b" ");
+    decimal(n);
+}
+
 // A blank and 16 hexadecimal digits.
 pub fn hex(n: u64) {
     text(b" ");

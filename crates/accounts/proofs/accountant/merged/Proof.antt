@@ -1,3 +1,4 @@
+-- No sum of two counters overflows, since each is below 2 ^ 60; the rest is the contracts of the parts.
 use borrow.Author.Needs.{needs}
 use native.Mathlib.Omega.{arith}
 use Prim.Native.Nat.{ℕ, _+_}

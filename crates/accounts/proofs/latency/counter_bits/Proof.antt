@@ -1,3 +1,4 @@
+-- What is gathered so far, and the entries that are left, give what the whole list gives.
 use borrow.Author.Needs.{needs}
 use native.Mathlib.Numerals.{add-one}
 use mathlib.Core.List.{List}

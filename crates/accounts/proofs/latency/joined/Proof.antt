@@ -1,3 +1,4 @@
+-- The count does not overflow, since both are below 2 ^ 60; the rest is the contracts of the parts.
 use borrow.Author.Needs.{needs}
 use native.Mathlib.Omega.{arith}
 use Rattle.accounts.specs.Laws.Counters.{counter-at, later-counters}

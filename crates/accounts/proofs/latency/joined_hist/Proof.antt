@@ -1,3 +1,4 @@
+-- The entries before the counter are sums already, those behind it are still the target's.
 use borrow.Author.Needs.{needs}
 use native.Mathlib.Omega.{arith}
 use mathlib.Core.Path.{_≡_, refl, _∙_}

@@ -1,3 +1,4 @@
+-- Each return is what the definition chooses by the same test.
 use borrow.Author.Tests.{eq-eqb, ne-eqb}
 use borrow.Author.Needs.{needs}
 use Rattle.accounts.specs.Latency.{joinedMaximumOf}

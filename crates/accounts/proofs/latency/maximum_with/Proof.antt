@@ -1,3 +1,4 @@
+-- Each return is what the definition chooses by the same test.
 use Rattle.accounts.specs.Latency.{maximumWithOf}
 use Rattle.accounts.proofs.latency.maximum_with.Statement.{statement}
 use Rattle.accounts.proofs.latency.maximum_with.Tie as tie

@@ -1,3 +1,4 @@
+-- Each return is what the definition chooses by the same tests.
 use borrow.Author.Tests.{eq-eqb, ne-eqb}
 use Rattle.accounts.specs.Latency.{minimumWithOf}
 use Rattle.accounts.proofs.latency.minimum_with.Statement.{statement}

@@ -1,3 +1,4 @@
+-- The bucket is one of the twelve, and neither the count nor the bucket overflows, since both are below 2 ^ 60.
 use borrow.Author.Needs.{needs}
 use native.Mathlib.Omega.{arith}
 use Prim.Native.Nat.{_<_}

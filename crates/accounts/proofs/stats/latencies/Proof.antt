@@ -1,3 +1,4 @@
+-- The fields are copied one by one.
 use mathlib.Core.Path.{refl}
 use Rattle.accounts.specs.Stats.{latenciesOf}
 use Rattle.accounts.proofs.stats.latencies.Statement.{statement}

@@ -1,3 +1,4 @@
+-- The fields are copied one by one.
 use mathlib.Core.Path.{refl}
 use Rattle.accounts.specs.Stats.{withLatenciesOf}
 use Rattle.accounts.proofs.stats.with_latencies.Statement.{statement}

@@ -1,3 +1,4 @@
+-- The latencies are those of the contract.
 use borrow.Author.Needs.{needs}
 use Rattle.accounts.specs.Accountant.{noSends}
 use Rattle.accounts.proofs.accountant.SendAccountant.default.Statement.{statement}

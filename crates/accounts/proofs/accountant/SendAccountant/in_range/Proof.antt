@@ -1,3 +1,4 @@
+-- The bits of all counters are those of the list, gathered from its front.
 use borrow.Author.Needs.{needs}
 use mathlib.Core.Path.{_∙_}
 use mathlib.Core.List.{[], _∷_}

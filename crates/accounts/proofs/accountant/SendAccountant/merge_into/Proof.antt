@@ -1,3 +1,4 @@
+-- Each return is what the definition gives by the same two tests.
 use borrow.Author.Needs.{needs}
 use borrow.Author.Tests.{not-true, not-false}
 use mathlib.Core.Path.{_≡_, sym, _∙_}

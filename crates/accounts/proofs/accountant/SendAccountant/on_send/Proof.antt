@@ -1,3 +1,4 @@
+-- Each return is what the definition gives by the same two tests, and no counter that passes them overflows.
 use borrow.Author.Tests.{not-true, not-false}
 use borrow.Author.Needs.{needs}
 use native.Mathlib.Omega.{arith}

@@ -1,3 +1,4 @@
+-- All fields are 0.
 use mathlib.Core.Path.{refl}
 use lib.Ieee.{ofBits, ofInt}
 use Rattle.accounts.specs.Stats.{noStats}

@@ -1,3 +1,4 @@
+-- Each return is what the definition gives by the same test.
 use borrow.Author.Needs.{needs}
 use mathlib.Core.Path.{sym, _∙_}
 use Rattle.accounts.specs.Counters.{statsCounters}

@@ -1,3 +1,4 @@
+-- Five counters below 2 ^ 60 add up below 2 ^ 64.
 use borrow.Author.Needs.{needs}
 use native.Mathlib.Omega.{arith}
 use mathlib.Core.Path.{sym, _∙_}

@@ -2,8 +2,8 @@
 use Rattle.draws.specs.Laws.Fraction.{draw-plus}
 use Rattle.numbers.specs.Laws.Kinds.{number-is, plus-finite-number}
 use borrow.Author.Needs.{needs}
-use Rattle.vectors.proofs.oracle.step.Statement.{statement}
-use Rattle.vectors.proofs.oracle.step.Tie as tie
+use Rattle.vectors.proofs.oracle_draws.step.Statement.{statement}
+use Rattle.vectors.proofs.oracle_draws.step.Tie as tie
 
 next-u64-requires : tie.Need-next-u64-requires
 next-u64-requires c κs = search needs

@@ -1,8 +1,8 @@
 -- The loop ends after every pair.
 use borrow.Author.Needs.{needs}
 use Prim.Native.Nat.{_≤_, _-_}
-use Rattle.vectors.proofs.oracle.extremes.Statement.{statement}
-use Rattle.vectors.proofs.oracle.extremes.Tie as tie
+use Rattle.vectors.proofs.oracle_draws.extremes.Statement.{statement}
+use Rattle.vectors.proofs.oracle_draws.extremes.Tie as tie
 
 abbrev Inv-loop : tie.InvT-loop
 Inv-loop k₀ k = k ≤ 256

@@ -1,10 +1,12 @@
-// Prints the generator's draws, direction seeds, maxima and minima, as the program crates/vectors does in crates/vectors/src/oracle.rt.
+// Prints the generator's draws, direction seeds, maxima and minima, as the program crates/vectors does in crates/vectors/src/oracle_draws.rt.
 mod config;
 mod impair;
+mod print;
 mod rng;
 mod stats;
 
 use impair::direction_seed;
+use print::{float, hex};
 use rng::Rng;
 
 const SEEDS: [u64; 12] = [
@@ -42,14 +44,6 @@ const FLOATS: [f64; 16] = [
     f64::NEG_INFINITY,
     f64::NAN,
 ];
-
-fn hex(n: u64) -> String {
-    format!(" {n:016x}")
-}
-
-fn float(x: f64) -> String {
-    if x.is_nan() { " nan".to_string() } else { hex(x.to_bits()) }
-}
 
 fn line(name: &str, seed: u64, rest: impl Iterator<Item = String>) {
     println!("{name}{}{}", hex(seed), rest.collect::<String>());

@@ -1,4 +1,4 @@
-// The lines that oracle/src/vectors.rs prints of the Rust source.
+// The lines that oracle/src/draws.rs prints of the Rust source.
 use crate::floats;
 use crate::print;
 use draws::Rng;

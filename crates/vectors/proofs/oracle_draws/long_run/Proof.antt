@@ -1,8 +1,8 @@
 -- The loop ends after a million turns.
 use borrow.Author.Needs.{needs}
 use Prim.Native.Nat.{_≤_, _-_}
-use Rattle.vectors.proofs.oracle.long_run.Statement.{statement}
-use Rattle.vectors.proofs.oracle.long_run.Tie as tie
+use Rattle.vectors.proofs.oracle_draws.long_run.Statement.{statement}
+use Rattle.vectors.proofs.oracle_draws.long_run.Tie as tie
 
 abbrev Inv-loop : tie.InvT-loop
 Inv-loop seed run₀ counter₀ run counter = counter ≤ 1000000

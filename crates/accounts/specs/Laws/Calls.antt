@@ -1,0 +1,34 @@
+-- When each call is done, and what it gives then; a refused one hands back what it was given.
+use mathlib.Core.Path.{_≡_}
+use mathlib.Core.Bool.{true, false, _&&_}
+use Prim.Native.Nat.{ℕ}
+use lib.Ieee.{Float}
+use Rattle.numbers.specs.Limits.{isLengthOf}
+use Rattle.accounts.specs.declared.answers.Outcome.the-variants.{Done, Refused}
+use Rattle.accounts.specs.declared.accountant.SendAccountant.{SendAccountant}
+use Rattle.accounts.specs.declared.stats.DirectionStats.{DirectionStats}
+use Rattle.accounts.specs.Accountant.{sentOf, mergedOf}
+use Rattle.accounts.specs.Counters.{areCounters, accountantCounters, statsCounters}
+use Rattle.accounts.specs.Calls.{onSendOf, mergeIntoOf}
+
+module _ (a : SendAccountant) (n : ℕ) (x : Float) where
+  pub send-done : isLengthOf n ≡ true → areCounters (accountantCounters a) ≡ true → onSendOf a n x ≡ record { accountant = sentOf a n x; answer = Done }
+  unfolding onSendOf
+  send-done long counted = rw (long, counted)
+
+  pub send-length-refused : isLengthOf n ≡ false → onSendOf a n x ≡ record { accountant = a; answer = Refused 22 }
+  unfolding onSendOf
+  send-length-refused long = rw long
+
+  pub send-counter-refused : isLengthOf n ≡ true → areCounters (accountantCounters a) ≡ false → onSendOf a n x ≡ record { accountant = a; answer = Refused 25 }
+  unfolding onSendOf
+  send-counter-refused long counted = rw (long, counted)
+
+module _ (a : SendAccountant) (s : DirectionStats) where
+  pub merge-done : areCounters (accountantCounters a) ≡ true → areCounters (statsCounters s) ≡ true → mergeIntoOf a s ≡ record { stats = mergedOf a s; answer = Done }
+  unfolding mergeIntoOf
+  merge-done accountant stats = rw (accountant, stats)
+
+  pub merge-refused : (areCounters (accountantCounters a) && areCounters (statsCounters s)) ≡ false → mergeIntoOf a s ≡ record { stats = s; answer = Refused 25 }
+  unfolding mergeIntoOf
+  merge-refused counted = rw counted
