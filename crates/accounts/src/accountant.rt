@@ -1,4 +1,6 @@
 use crate::answers::Outcome;
+use crate::counters;
+use crate::joining;
 use crate::latency;
 use crate::latency::LatencyStats;
 use crate::stats;
@@ -73,13 +75,8 @@ impl SendAccountant {
     pub fn merge_into(self, st: DirectionStats) -> Updated
         ensures { λ r. ⌜ r ≡ mergeIntoOf self st ⌝ }
     {
-        if !self.in_range() {
-            return Updated {
-                stats: st,
-                answer: Outcome::Refused(REFUSED_COUNTER),
-            };
-        }
-        if !st.in_range() {
+        let counted = self.in_range() & st.in_range();
+        if !counted {
             return Updated {
                 stats: st,
                 answer: Outcome::Refused(REFUSED_COUNTER),
@@ -97,7 +94,7 @@ impl SendAccountant {
     {
         let l = self.latency;
         let hist = l.hist;
-        let bits = latency::counter_bits(hist);
+        let bits = counters::counter_bits(hist);
         numbers::is_counter(
             self.sent_pkts
                 | self.sent_bytes
@@ -116,7 +113,7 @@ fn merged(a: SendAccountant, mut st: DirectionStats) -> DirectionStats
     ensures { λ r. ⌜ r ≡ mergedOf a st ⌝ }
 {
     let l = a.latency;
-    let joined = latency::joined(stats::latencies(st), l);
+    let joined = joining::joined(stats::latencies(st), l);
     st.sent_pkts += a.sent_pkts;
     st.sent_bytes += a.sent_bytes;
     st.dropped_overflow += a.dropped_overflow;

@@ -2,6 +2,8 @@
 mod accountant;
 mod answers;
 mod buckets;
+mod counters;
+mod joining;
 mod latency;
 mod stats;
 

@@ -1,6 +1,7 @@
 use crate::answers::Outcome;
 use crate::answers::TotalDropped;
 use crate::buckets::N_BUCKETS;
+use crate::counters;
 use crate::latency;
 use crate::latency::LatencyStats;
 use numbers::REFUSED_COUNTER;
@@ -70,17 +71,16 @@ impl DirectionStats {
     pub fn record_delivered(mut self, latency_ms: f64) -> Updated
         ensures { λ r. ⌜ r ≡ recordDeliveredOf self «latency_ms» ⌝ }
     {
-        if self.in_range() {
-            let recorded = latency::recorded(latencies(self), latency_ms);
-            Updated {
-                stats: with_latencies(self, recorded),
-                answer: Outcome::Done,
-            }
-        } else {
-            Updated {
+        if !self.in_range() {
+            return Updated {
                 stats: self,
                 answer: Outcome::Refused(REFUSED_COUNTER),
-            }
+            };
+        }
+        self = with_latencies(self, latency::recorded(latencies(self), latency_ms));
+        Updated {
+            stats: self,
+            answer: Outcome::Done,
         }
     }
 
@@ -106,7 +106,7 @@ impl DirectionStats {
         ensures { λ r. ⌜ r ≡ areCounters (statsCounters self) ⌝ }
     {
         let hist = self.hist;
-        let bits = latency::counter_bits(hist);
+        let bits = counters::counter_bits(hist);
         numbers::is_counter(
             self.received_pkts
                 | self.received_bytes

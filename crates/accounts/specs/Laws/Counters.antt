@@ -1,6 +1,6 @@
 -- Refusal 25 over lists of counters: each counter that is let through is below 2 ^ 60, and the bits of all together tell whether all are let through.
-use mathlib.Core.Path.{_≡_, refl, sym, ap, _∙_}
-use mathlib.Core.Bool.{Bool, true, false, _&&_, true≢false}
+use mathlib.Core.Path.{_≡_, sym, ap, _∙_}
+use mathlib.Core.Bool.{Bool, true, _&&_, and-eq-true-iff, and-true, and-assoc}
 use mathlib.Core.List.{List, [], _∷_, _++_}
 use Prim.Native.Nat.{ℕ, zero, suc, _^_, _<_}
 use native.Mathlib.Omega.{arith}
@@ -10,15 +10,11 @@ use Rattle.numbers.specs.Limits.{isCounterOf}
 use Rattle.numbers.specs.Laws.Limits.{counter-below, counters-or}
 use Rattle.accounts.specs.Counters.{areCounters, bitsFrom}
 
-and-true : (a b : Bool) → (a && b) ≡ true → (a ≡ true) × (b ≡ true)
-and-true true b h = (refl, h)
-and-true false b h = absurd (true≢false (sym h))
-
 first-counter : (n : ℕ) (ns : List ℕ) → areCounters (n ∷ ns) ≡ true → n < 2 ^ 60
-first-counter n ns h = counter-below n (and-true (isCounterOf n) (areCounters ns) h .0)
+first-counter n ns h = counter-below n (and-eq-true-iff (isCounterOf n) (areCounters ns) .0 h .0)
 
 other-counters : (n : ℕ) (ns : List ℕ) → areCounters (n ∷ ns) ≡ true → areCounters ns ≡ true
-other-counters n ns h = and-true (isCounterOf n) (areCounters ns) h .1
+other-counters n ns h = and-eq-true-iff (isCounterOf n) (areCounters ns) .0 h .1
 
 pub counter-at : (ns : List ℕ) (i : ℕ) → areCounters ns ≡ true → getD ns i 0 < 2 ^ 60
 counter-at [] i h = omega arith
@@ -30,16 +26,8 @@ later-counters ns zero h = h
 later-counters [] (suc i) h = h
 later-counters (n ∷ ns) (suc i) h = later-counters ns i (other-counters n ns h)
 
-and-assoc : (a b c : Bool) → (a && b && c) ≡ (a && (b && c))
-and-assoc true b c = refl
-and-assoc false b c = refl
-
-and-end : (a : Bool) → (a && true) ≡ a
-and-end true = refl
-and-end false = refl
-
 pub bits-judge : (n : ℕ) (ns : List ℕ) → isCounterOf (bitsFrom n ns) ≡ (isCounterOf n && areCounters ns)
-bits-judge n [] = sym (and-end (isCounterOf n))
+bits-judge n [] = sym (and-true (isCounterOf n))
 bits-judge n (m ∷ ms) = bits-judge (bitOr n m) ms ∙ ap (λ (b : Bool). b && areCounters ms) (counters-or n m) ∙ and-assoc (isCounterOf n) (isCounterOf m) (areCounters ms)
 
 -- the bits of a list as they are gathered from 0
@@ -48,7 +36,7 @@ unfolding isCounterOf
 from-zero ns = bits-judge 0 ns
 
 put-last : (ns rest : List ℕ) → areCounters (ns ++ (bitsFrom 0 rest ∷ [])) ≡ areCounters (ns ++ rest)
-put-last [] rest = and-end (isCounterOf (bitsFrom 0 rest)) ∙ from-zero rest
+put-last [] rest = and-true (isCounterOf (bitsFrom 0 rest)) ∙ from-zero rest
 put-last (n ∷ ns) rest = ap (λ (b : Bool). isCounterOf n && b) (put-last ns rest)
 
 -- the bits of some counters, and after them those of a list that were gathered before

@@ -1,5 +1,5 @@
 -- Merging adds every counter of the accountant to the target's counter of the same name, and leaves the target's other counters as they are.
-use mathlib.Core.Path.{_≡_, refl}
+use mathlib.Core.Path.{_≡_}
 use mathlib.Core.List.{List, _∷_}
 use Prim.Native.Nat.{ℕ}
 use native.Mathlib.Nat.{add-zero}

@@ -1,10 +1,11 @@
 -- Counters and lengths that are let through: what they are below, and that the bits of several counters may be judged at once.
 use mathlib.Core.Path.{_≡_, sym, subst}
-use mathlib.Core.Bool.{Bool, true, false, _&&_}
+use mathlib.Core.Bool.{true, _&&_, and-eq-true-iff}
 use Prim.Native.Nat.{ℕ, _^_, _≤_, _<_}
 use native.Mathlib.Nat.{add-le-add-iff-right, le-refl, le-trans, le-of-eq, add-le-add, lt-of-le-of-lt}
-use lib.Dec.{T, ltb, ltb→lt, lt→ltb, leb→le}
+use lib.Dec.{ltb, ltb→lt, lt→ltb, leb→le}
 use lib.Bits.{bitOr, or-lt, or-add-and, and-le-r, or-comm}
+use lib.Ieee.Bits.{is-true}
 use Rattle.numbers.specs.Limits.{maxLength, isLengthOf, isCounterOf}
 use Rattle.numbers.specs.Laws.Order.{same-test}
 
@@ -23,18 +24,6 @@ left-le-or a b = add-le-add-iff-right b .0 (le-trans (le-of-eq (sym (or-add-and 
 right-le-or : (a b : ℕ) → b ≤ bitOr a b
 right-le-or a b = subst (λ (x : ℕ). b ≤ x) (or-comm b a) (left-le-or b a)
 
-and-both : (a b : Bool) → T a → T b → T (a && b)
-and-both true b s t = t
-and-both false b s t = s
-
-and-first : (a b : Bool) → T (a && b) → T a
-and-first true b t = tt
-and-first false b t = t
-
-and-second : (a b : Bool) → T (a && b) → T b
-and-second true b t = t
-and-second false b t = absurd t
-
 -- two numbers are counters where the bits of both together are one
 pub counters-or : (a b : ℕ) → isCounterOf (bitOr a b) ≡ (isCounterOf a && isCounterOf b)
 unfolding isCounterOf
@@ -42,5 +31,9 @@ counters-or a b =
     let x = ltb a (2 ^ 60) in
     let y = ltb b (2 ^ 60) in
     same-test (ltb (bitOr a b) (2 ^ 60)) (x && y)
-    (λ t. let below = ltb→lt (bitOr a b) (2 ^ 60) t in and-both x y (lt→ltb a (2 ^ 60) (lt-of-le-of-lt (left-le-or a b) below)) (lt→ltb b (2 ^ 60) (lt-of-le-of-lt (right-le-or a b) below)))
-    (λ t. lt→ltb (bitOr a b) (2 ^ 60) (or-lt 60 a b (ltb→lt a (2 ^ 60) (and-first x y t)) (ltb→lt b (2 ^ 60) (and-second x y t))))
+    (λ t.
+    let below = ltb→lt (bitOr a b) (2 ^ 60) t in
+    rw (is-true x (lt→ltb a (2 ^ 60) (lt-of-le-of-lt (left-le-or a b) below)), is-true y (lt→ltb b (2 ^ 60) (lt-of-le-of-lt (right-le-or a b) below))) tt)
+    (λ t.
+    let both = and-eq-true-iff x y .0 (is-true (x && y) t) in
+    lt→ltb (bitOr a b) (2 ^ 60) (or-lt 60 a b (ltb→lt a (2 ^ 60) (rw (both .0) tt)) (ltb→lt b (2 ^ 60) (rw (both .1) tt))))

@@ -9,14 +9,14 @@ use Rattle.accounts.specs.Latency.{countedIn, recordedOf}
 use Rattle.accounts.proofs.latency.recorded.Statement.{statement}
 use Rattle.accounts.proofs.latency.recorded.Tie as tie
 
+add-l : tie.Need-add-l
+add-l c = omega (arith, counter-at (latencyCounters (c .args .t1)) 0 (c .pre))
+
 minimum-with-requires : tie.Need-minimum-with-requires
 minimum-with-requires c κs = search needs
 
 maximum-with-requires : tie.Need-maximum-with-requires
 maximum-with-requires c κs = search needs
-
-add-l : tie.Need-add-l
-add-l c = let s = c .before .before in omega (arith, counter-at (latencyCounters (s .args .t1)) 0 (s .pre))
 
 bucket-index-requires : tie.Need-bucket-index-requires
 bucket-index-requires c κs = search needs
@@ -44,9 +44,9 @@ pub recorded-spec : {M : Type 1} → statement M
 recorded-spec =
     tie.close
     (tie.spec
+    add-l
     minimum-with-requires
     maximum-with-requires
-    add-l
     bucket-index-requires
     mul-l
     element-copy-out-l

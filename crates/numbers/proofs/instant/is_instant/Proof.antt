@@ -1,6 +1,6 @@
 -- What is at most 2 ^ 53 is a number; then only its sign bit, the highest of its pattern, is left to test.
 use mathlib.Core.Path.{_≡_, refl, sym, ap, _∙_}
-use mathlib.Core.Bool.{Bool, true, false, not, _||_, true≢false}
+use mathlib.Core.Bool.{true, false, not, true≢false, or-true, or-false}
 use Prim.Native.Nat.{_^_}
 use lib.Dec.{T, ltb, leb}
 use lib.Ieee.{Float, nan, inf, fin, binary64, ofBits, isNan, le, fits, toBits}
@@ -21,14 +21,6 @@ compared (fin s m e) y h = number-fin s m e
 bound : Number lastInstant
 bound = number-fin false 1 _
 
-or-false : (b : Bool) → (b || false) ≡ b
-or-false true = refl
-or-false false = refl
-
-or-true : (b : Bool) → false ≡ not (b || true)
-or-true true = refl
-or-true false = refl
-
 -- for a number at most 2 ^ 53
 within : (t : Float) → T (fits binary64 t) → le t lastInstant ≡ true → ltb (toBits binary64 t) (2 ^ 63) ≡ isInstantOf t
 unfolding isInstantOf
@@ -40,8 +32,8 @@ within t f h =
 beyond : (t : Float) → le t lastInstant ≡ false → false ≡ isInstantOf t
 unfolding isInstantOf isNan
 beyond nan h = refl
-beyond (inf s) h = rw (lt-is-not-le (number-inf s) bound, h) (or-true s)
-beyond (fin s m e) h = rw (lt-is-not-le (number-fin s m e) bound, h) (or-true s)
+beyond (inf s) h = rw (lt-is-not-le (number-inf s) bound, h) (ap not (sym (or-true s)))
+beyond (fin s m e) h = rw (lt-is-not-le (number-fin s m e) bound, h) (ap not (sym (or-true s)))
 
 float-to-bits-result : tie.Need-float-to-bits-result
 unfolding ofBits

@@ -4,8 +4,8 @@ use native.Mathlib.Omega.{arith}
 use Rattle.accounts.specs.Laws.Counters.{counter-at, later-counters}
 use Rattle.accounts.specs.Counters.{latencyCounters}
 use Rattle.accounts.specs.Latency.{joinedOf}
-use Rattle.accounts.proofs.latency.joined.Statement.{statement}
-use Rattle.accounts.proofs.latency.joined.Tie as tie
+use Rattle.accounts.proofs.joining.joined.Statement.{statement}
+use Rattle.accounts.proofs.joining.joined.Tie as tie
 
 joined-hist-requires : tie.Need-joined-hist-requires
 joined-hist-requires c κs = let s = c .before .before in (later-counters (latencyCounters (s .args .target)) 1 (s .pre .0), later-counters (latencyCounters (s .args .l)) 1 (s .pre .1))

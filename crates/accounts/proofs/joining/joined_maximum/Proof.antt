@@ -2,8 +2,8 @@
 use borrow.Author.Tests.{eq-eqb, ne-eqb}
 use borrow.Author.Needs.{needs}
 use Rattle.accounts.specs.Latency.{joinedMaximumOf}
-use Rattle.accounts.proofs.latency.joined_maximum.Statement.{statement}
-use Rattle.accounts.proofs.latency.joined_maximum.Tie as tie
+use Rattle.accounts.proofs.joining.joined_maximum.Statement.{statement}
+use Rattle.accounts.proofs.joining.joined_maximum.Tie as tie
 
 maximum-requires : tie.Need-maximum-requires
 maximum-requires c κs = search needs

@@ -8,8 +8,8 @@ use lib.Seq.{drop-cons}
 use lib.ListN.{length, getD, drop, drop-of-length-le}
 use lib.Bits.{bitOr}
 use Rattle.accounts.specs.Counters.{bitsFrom}
-use Rattle.accounts.proofs.latency.counter_bits.Statement.{statement}
-use Rattle.accounts.proofs.latency.counter_bits.Tie as tie
+use Rattle.accounts.proofs.counters.counter_bits.Statement.{statement}
+use Rattle.accounts.proofs.counters.counter_bits.Tie as tie
 
 abbrev Inv-loop : tie.InvT-loop
 Inv-loop hist bits₀ i₀ bits i = (i ≤ 12) × (bitsFrom 0 hist ≡ bitsFrom bits (drop i hist))

@@ -3,8 +3,8 @@ use borrow.Author.Tests.{eq-eqb, ne-eqb}
 use borrow.Author.Needs.{needs}
 use lib.Ieee.{ofBits, ofInt}
 use Rattle.accounts.specs.Latency.{joinedMinimumOf}
-use Rattle.accounts.proofs.latency.joined_minimum.Statement.{statement}
-use Rattle.accounts.proofs.latency.joined_minimum.Tie as tie
+use Rattle.accounts.proofs.joining.joined_minimum.Statement.{statement}
+use Rattle.accounts.proofs.joining.joined_minimum.Tie as tie
 
 returns : tie.Need-returns
 unfolding joinedMinimumOf

@@ -6,8 +6,8 @@ use Prim.Native.Nat.{_-_, _≤_}
 use lib.ListN.{length, getD}
 use Rattle.accounts.specs.Laws.Counters.{counter-at}
 use Rattle.accounts.specs.Laws.Sums.{front, front-entry, front-step, front-end}
-use Rattle.accounts.proofs.latency.joined_hist.Statement.{statement}
-use Rattle.accounts.proofs.latency.joined_hist.Tie as tie
+use Rattle.accounts.proofs.joining.joined_hist.Statement.{statement}
+use Rattle.accounts.proofs.joining.joined_hist.Tie as tie
 
 abbrev Inv-loop : tie.InvT-loop
 Inv-loop target₀ hist i₀ target i = (i ≤ 12) × (target ≡ front i target₀ hist)
