@@ -1,5 +1,6 @@
 pub mod Buckets
 pub mod Counters
+pub mod Small
 pub mod Sums
 pub mod Histogram
 pub mod Merged

@@ -9,7 +9,7 @@ use Rattle.numbers.specs.Laws.Limits.{length-within}
 use Rattle.accounts.specs.Accountant.{sentOf}
 use Rattle.accounts.specs.Counters.{areCounters, accountantCounters}
 use Rattle.accounts.specs.Calls.{onSendOf}
-use Rattle.accounts.specs.Laws.Counters.{counter-at, later-counters}
+use Rattle.accounts.specs.Laws.Small.{SmallSends, small-sends}
 use Rattle.accounts.proofs.accountant.SendAccountant.on_send.Statement.{statement}
 use Rattle.accounts.proofs.accountant.SendAccountant.on_send.Tie as tie
 
@@ -36,17 +36,17 @@ taken c = let one = c .before .before in sym (one .before .is-length .ensures) �
 counted : (c : tie.Else2) → areCounters (accountantCounters (c .before .before .before .before .args .self)) ≡ true
 counted c = sym (c .before .in-range .ensures) ∙ not-false (c .before .in-range .result) (c .if2 .left)
 
+small : (c : tie.Else2) → SmallSends (c .before .before .before .before .args .self)
+small c = small-sends (c .before .before .before .before .args .self) (counted c)
+
 add-self : tie.Need-add-self
-unfolding accountantCounters
-add-self c = let s = c .before .before .before .before .before .before in omega (arith, counter-at (accountantCounters (s .args .self)) 0 (counted (c .before .before)))
+add-self c = omega (arith, small (c .before .before))
 
 add-self-2 : tie.Need-add-self-2
-unfolding accountantCounters
-add-self-2 c = let s = c .before .before .before .before .before .before .before in omega (arith, counter-at (accountantCounters (s .args .self)) 1 (counted (c .before .before .before)), length-within (s .args .len) (taken (c .before .before .before)))
+add-self-2 c = let done = c .before .before .before in omega (arith, small done, length-within (done .before .before .before .before .args .len) (taken done))
 
 recorded-requires : tie.Need-recorded-requires
-unfolding accountantCounters
-recorded-requires c κs = let s = c .before .before .before .before .before .before .before in later-counters (accountantCounters (s .args .self)) 5 (counted (c .before .before .before))
+recorded-requires c κs = small (c .before .before .before) .latencies
 
 returns-3 : tie.Need-returns-3
 unfolding onSendOf sentOf

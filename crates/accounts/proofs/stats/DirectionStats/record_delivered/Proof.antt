@@ -5,7 +5,7 @@ use mathlib.Core.Path.{_≡_, sym, _∙_}
 use mathlib.Core.Bool.{true}
 use Rattle.accounts.specs.Counters.{areCounters, statsCounters}
 use Rattle.accounts.specs.Calls.{recordDeliveredOf}
-use Rattle.accounts.specs.Laws.Counters.{later-counters}
+use Rattle.accounts.specs.Laws.Small.{small-stats}
 use Rattle.accounts.proofs.stats.DirectionStats.record_delivered.Statement.{statement}
 use Rattle.accounts.proofs.stats.DirectionStats.record_delivered.Tie as tie
 
@@ -23,8 +23,7 @@ counted : (c : tie.Else1) → areCounters (statsCounters (c .before .before .arg
 counted c = sym (c .before .in-range .ensures) ∙ not-false (c .before .in-range .result) (c .if1 .left)
 
 recorded-requires : tie.Need-recorded-requires
-unfolding statsCounters
-recorded-requires c κs = rw (c .latencies .ensures) (later-counters (statsCounters (c .before .before .before .args .self)) 14 (counted (c .before)))
+recorded-requires c κs = rw (c .latencies .ensures) (small-stats (c .before .before .before .args .self) (counted (c .before)) .latencies)
 
 with-latencies-requires : tie.Need-with-latencies-requires
 with-latencies-requires c κs = search needs

@@ -2,36 +2,29 @@
 use borrow.Author.Needs.{needs}
 use native.Mathlib.Omega.{arith}
 use mathlib.Core.Path.{sym, _∙_}
-use Prim.Native.Nat.{ℕ, _^_, _<_}
-use lib.ListN.{getD}
 use Rattle.accounts.specs.Stats.{totalOf}
-use Rattle.accounts.specs.Counters.{statsCounters}
 use Rattle.accounts.specs.Calls.{totalDroppedOf}
-use Rattle.accounts.specs.Laws.Counters.{counter-at}
+use Rattle.accounts.specs.Laws.Small.{SmallStats, small-stats}
 use Rattle.accounts.proofs.stats.DirectionStats.total_dropped.Statement.{statement}
 use Rattle.accounts.proofs.stats.DirectionStats.total_dropped.Tie as tie
 
 in-range-requires : tie.Need-in-range-requires
 in-range-requires c κs = search needs
 
-each : (c : tie.Then1) (i : ℕ) → getD (statsCounters (c .before .before .args .self)) i 0 < 2 ^ 60
-each c i = counter-at (statsCounters (c .before .before .args .self)) i (sym (c .before .in-range .ensures) ∙ c .if1 .taken)
+small : (c : tie.Then1) → SmallStats (c .before .before .args .self)
+small c = small-stats (c .before .before .args .self) (sym (c .before .in-range .ensures) ∙ c .if1 .taken)
 
 add-t4 : tie.Need-add-t4
-unfolding statsCounters
-add-t4 c = omega (arith, each (c .before) 4, each (c .before) 5)
+add-t4 c = omega (arith, small (c .before))
 
 add-t5 : tie.Need-add-t5
-unfolding statsCounters
-add-t5 c = omega (arith, each (c .before .before) 4, each (c .before .before) 5, each (c .before .before) 6)
+add-t5 c = omega (arith, small (c .before .before))
 
 add-t6 : tie.Need-add-t6
-unfolding statsCounters
-add-t6 c = omega (arith, each (c .before .before .before) 4, each (c .before .before .before) 5, each (c .before .before .before) 6, each (c .before .before .before) 7)
+add-t6 c = omega (arith, small (c .before .before .before))
 
 add-t7 : tie.Need-add-t7
-unfolding statsCounters
-add-t7 c = omega (arith, each (c .before .before .before .before) 4, each (c .before .before .before .before) 5, each (c .before .before .before .before) 6, each (c .before .before .before .before) 7, each (c .before .before .before .before) 8)
+add-t7 c = omega (arith, small (c .before .before .before .before))
 
 returns : tie.Need-returns
 unfolding totalDroppedOf totalOf
