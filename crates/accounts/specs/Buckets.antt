@@ -6,8 +6,11 @@ use lib.Ieee.{Float, lt}
 use Rattle.numbers.specs.Whole.{whole}
 
 -- the bounds in milliseconds, from stats.rs
+abbrev pub boundsMs : List ℕ
+boundsMs = 1 ∷ 2 ∷ 5 ∷ 10 ∷ 20 ∷ 50 ∷ 100 ∷ 200 ∷ 500 ∷ 1000 ∷ 5000 ∷ []
+
 unfoldable pub bounds : List Float
-bounds = map whole (1 ∷ 2 ∷ 5 ∷ 10 ∷ 20 ∷ 50 ∷ 100 ∷ 200 ∷ 500 ∷ 1000 ∷ 5000 ∷ [])
+bounds = map whole boundsMs
 
 -- the place of the first bound above the latency, and the number of bounds where none is above it
 abbrev pub firstAbove : Float → List Float → ℕ

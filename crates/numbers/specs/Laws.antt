@@ -1,5 +1,6 @@
 -- In order: Kinds (what a float is), NotNan (results that are numbers), Order, Extremes, Sign, Values (a value that fits is its own rounding), Whole
--- (comparison of whole numbers), Bounded (times and rates), Products, Magnitude and Signed (either sign), Sums, Credit and Elapsed (the bucket's bound), Digits.
+-- (comparison of whole numbers), Bounded (times and rates), Products, Magnitude, Signed and Transitive (either sign), Sums, Credit and Elapsed (the bucket's bound), Digits, Limits
+-- (counters and lengths).
 pub mod Kinds
 pub mod NotNan
 pub mod Order
@@ -11,6 +12,7 @@ pub mod Bounded
 pub mod Products
 pub mod Magnitude
 pub mod Signed
+pub mod Transitive
 pub mod Sums
 pub mod Credit
 pub mod Elapsed

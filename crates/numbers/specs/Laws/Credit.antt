@@ -8,9 +8,9 @@ use lib.IntN.{ℤ, pos}
 use lib.Ieee.{Float, inf, fin, binary64, round, add, sum, sub, mul, div, neg, lt, le, up, down, fits}
 use lib.Ieee.Fits.{round-fits, neg-fits, add-fits}
 use Rattle.numbers.specs.Extremes.{minimumOf}
-use Rattle.numbers.specs.Laws.Kinds.{Finite, finite-fin, Plus, plus-inf, plus-fin, PlusFinite, plus-finite, number-inf, number-fin, plus-finite-plus}
+use Rattle.numbers.specs.Laws.Kinds.{Finite, finite-fin, Plus, plus-inf, plus-fin, PlusFinite, plus-finite, number-inf, number-fin, plus-number, plus-finite-plus}
 use Rattle.numbers.specs.Laws.NotNan.{cond-has, round-plus, add-plus, mul-plus, div-plus}
-use Rattle.numbers.specs.Laws.Order.{le-trans-plus}
+use Rattle.numbers.specs.Laws.Transitive.{le-trans}
 use Rattle.numbers.specs.Laws.Extremes.{chosen-has, chosen-number}
 use Rattle.numbers.specs.Laws.Sums.{add-mono}
 use Rattle.numbers.specs.Laws.Products.{finite-below, mul-mono, div-mono}
@@ -56,7 +56,7 @@ minus-credit h (plus-finite m e) l = record { fit = neg-fits binary64 (fin false
 round-credit : (s : Bool) (a c : ℕ) {y : Float} → Plus y → T (le (round binary64 false a c) y) → T (le y deepest) → Credit (round binary64 s a c)
 round-credit s a c q k l =
     let h = round-fits binary64 false a c in
-    let under = le-trans-plus (round-plus binary64 a c) q (plus-fin 1 (pos debtPower)) k l in
+    let under = le-trans (plus-number (round-plus binary64 a c)) (plus-number q) (number-fin false 1 (pos debtPower)) k l in
     let clear = finite-below (round-plus binary64 a c) (finite-fin false 1 (pos debtPower)) under in
     elim s [ false ↦ plus-credit h clear | true ↦ rw (round-neg binary64 a c) (minus-credit h clear under) ]
 
@@ -110,7 +110,7 @@ charge h (finite-fin false m e) l k (plus-finite n g) s =
     let c = down e * down g in
     cond-has Credit (ltb a b)
     (round-credit true (b - a) c (plus-fin n g) (rw (mul-comm (down e) (down g)) (left-below binary64 n g e a k))
-    (le-trans-plus (plus-fin n g) (plus-fin 1 (pos packetPower)) (plus-fin 1 (pos debtPower)) s tt))
+    (le-trans (number-fin false n g) (number-fin false 1 (pos packetPower)) (number-fin false 1 (pos debtPower)) s tt))
     (plus-credit (round-fits binary64 false (a - b) c) (finite-below (round-plus binary64 (a - b) c) (finite-fin false m e) (left-below binary64 m e g b h)))
 
 abbrev pub refilledOf : Float → Float → Float → Float → Float

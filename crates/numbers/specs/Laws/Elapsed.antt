@@ -14,9 +14,10 @@ use lib.Ieee.Positive.{first-pos}
 use lib.Ieee.Bits.{is-true}
 use Rattle.numbers.specs.Extremes.{maximumOf}
 use Rattle.numbers.specs.Instant.{lastInstant}
-use Rattle.numbers.specs.Laws.Kinds.{Number, number-fin, finite-fin, Plus, plus-inf, plus-fin, PlusFinite, plus-finite}
+use Rattle.numbers.specs.Laws.Kinds.{Number, number-fin, finite-fin, Plus, plus-inf, plus-fin, PlusFinite, plus-finite, plus-number}
 use Rattle.numbers.specs.Laws.NotNan.{cond-when, round-number, round-plus}
-use Rattle.numbers.specs.Laws.Order.{le→cross, le-trans-plus}
+use Rattle.numbers.specs.Laws.Order.{le→cross}
+use Rattle.numbers.specs.Laws.Transitive.{le-trans}
 use Rattle.numbers.specs.Laws.Extremes.{chosen-has, chosen-number}
 use Rattle.numbers.specs.Laws.Values.{fits-parts, low-exp, restore}
 use Rattle.numbers.specs.Laws.Products.{finite-below}
@@ -79,7 +80,7 @@ since h k (plus-finite m e) (plus-finite n g) s =
     rw (nought-above (round-number binary64 true (b - a) c) below) nought-bounded)
     (chosen-has Bounded (lt (round binary64 false (a - b) c) nought) (record {
       clear = finite-below (round-plus binary64 (a - b) c) (finite-fin false m e) under;
-      small = le-trans-plus (round-plus binary64 (a - b) c) (plus-fin m e) (plus-fin 1 (pos 53)) under s;
+      small = le-trans (plus-number (round-plus binary64 (a - b) c)) (number-fin false m e) (number-fin false 1 (pos 53)) under s;
     }) nought-bounded)
 
 pub elapsed-bounded : {now last : Float} → T (fits binary64 now) → T (fits binary64 last) → Bounded now → Bounded last → Bounded (maximumOf (sub binary64 now last) nought)

@@ -35,7 +35,7 @@ lt-le : (x y : Float) → T (lt x y) → T (le x y)
 unfolding le
 lt-le x y t = or-left (lt x y) (eq x y) t
 
-le-self : {x : Float} → Number x → T (le x x)
+pub le-self : {x : Float} → Number x → T (le x x)
 unfolding le ne
 le-self {x} p = or-right (lt x x) (eq x x) (not-false (eq x x) (sym (number-is p) ∙ nan-differs x))
 

@@ -2,7 +2,7 @@
 use mathlib.Core.Path.{_≡_, refl, sym, ap, _∙_}
 use mathlib.Core.Bool.{Bool, true, false, _&&_, _||_, not}
 use Prim.Native.Nat.{ℕ, _+_, _*_, _<_, _≤_}
-use native.Mathlib.Nat.{add-comm, le-of-lt, le-of-eq, mul-le-mul-right, le-of-mul-le-mul-right}
+use native.Mathlib.Nat.{add-comm, le-of-lt, le-of-eq}
 use native.Mathlib.Omega.{arith}
 use lib.Arith.{lt→nleb}
 use lib.Dec.{T, eqb, ltb, leb, ltb→lt, lt→ltb, eqb→eq, nltb→le, nleb→lt}
@@ -40,21 +40,6 @@ le→cross m n e g h = go (ltb a b) (eqb a b) (ltb→lt a b) (eqb→eq a b) h
 
 pub cross→le : (m n : ℕ) (e g : ℤ) → m * up e * down g ≤ n * up g * down e → T (le (fin false m e) (fin false n g))
 cross→le m n e g h = le-of-values (fin false m e) (fin false n g) (m * up e) (down e) (n * up g) (down g) (down-pos e) (down-pos g) (refl, refl) (refl, refl) h
-
-cross-trans : (a b c p q r : ℕ) → 0 < q → a * q ≤ b * p → b * r ≤ c * q → a * r ≤ c * p
-cross-trans a b c p q r Q h k = le-of-mul-le-mul-right (omega (arith, mul-le-mul-right r h, mul-le-mul-right p k)) Q
-
-pub le-trans-plus : {x y z : Float} → Plus x → Plus y → Plus z → T (le x y) → T (le y z) → T (le x z)
-unfolding le
-le-trans-plus plus-inf plus-inf plus-inf h k = tt
-le-trans-plus plus-inf plus-inf (plus-fin o i) h k = k
-le-trans-plus plus-inf (plus-fin n g) plus-inf h k = tt
-le-trans-plus plus-inf (plus-fin n g) (plus-fin o i) h k = h
-le-trans-plus (plus-fin m e) plus-inf plus-inf h k = tt
-le-trans-plus (plus-fin m e) plus-inf (plus-fin o i) h k = absurd k
-le-trans-plus (plus-fin m e) (plus-fin n g) plus-inf h k = tt
-le-trans-plus (plus-fin m e) (plus-fin n g) (plus-fin o i) h k =
-    cross→le m o e i (cross-trans (m * up e) (n * up g) (o * up i) (down e) (down g) (down i) (down-pos g) (le→cross m n e g h) (le→cross n o g i k))
 
 -- no number is above +∞
 pub le-inf : {x : Float} → Plus x → T (le x (inf false))

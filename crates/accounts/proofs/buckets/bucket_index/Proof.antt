@@ -50,6 +50,13 @@ turn x i k above h is test =
     let left : drop i bounds ≡ getD bounds i nan ∷ drop (suc i) bounds = drop-cons bounds i nan (rw many h) in
     is ∙ rw (left, test, add-one)
 
+returns-2 : tie.Need-returns-2 Inv-loop μ-loop
+unfolding bounds ofInt ofBits
+returns-2 c =
+    let at = c .before .before in
+    let x = at .before .args .latency-ms in
+    sym (turn x (at .loop .i) (bucketIndexOf x) true (c .before .loop-test .taken) (at .loop .inv .1) (c .if1 .taken) ∙ add-zero (at .loop .i))
+
 loop-again : tie.Need-loop-again Inv-loop μ-loop
 unfolding bounds ofInt ofBits
 loop-again c =
@@ -65,13 +72,6 @@ past x i k h is = sym (is ∙ rw h)
 
 returns : tie.Need-returns Inv-loop μ-loop
 returns c = let at = c .before in past (at .before .args .latency-ms) (at .loop .i) (bucketIndexOf (at .before .args .latency-ms)) (omega (arith, at .loop .inv .0, c .loop-test .left)) (at .loop .inv .1)
-
-returns-2 : tie.Need-returns-2 Inv-loop μ-loop
-unfolding bounds ofInt ofBits
-returns-2 c =
-    let at = c .before .before in
-    let x = at .before .args .latency-ms in
-    sym (turn x (at .loop .i) (bucketIndexOf x) true (c .before .loop-test .taken) (at .loop .inv .1) (c .if1 .taken) ∙ add-zero (at .loop .i))
 
 pub bucket-index-spec : {M : Type 1} → statement M
 bucket-index-spec =
