@@ -1,13 +1,13 @@
 -- What each call gives for any records and arguments: the record that comes back, and beside it that the call is done or the number of its refusal.
 -- A refused call hands back the record that it was given. Refusals are tried in the order 22, 25.
-use mathlib.Core.Bool.{cond, _&&_}
+use mathlib.Core.Bool.{cond, not, _&&_}
 use Prim.Native.Nat.{ℕ}
 use lib.Ieee.{Float}
 use Rattle.numbers.specs.Limits.{isLengthOf}
 use Rattle.numbers.specs.Refusals.{refusedLength, refusedCounter}
 use Rattle.accounts.specs.declared.answers.Outcome.the-variants.{Done, Refused}
 use Rattle.accounts.specs.declared.answers.TotalDropped.{TotalDropped}
-use Rattle.accounts.specs.declared.answers.TotalDropped.the-variants.{Dropped, Refused as Untold}
+use Rattle.accounts.specs.declared.answers.TotalDropped.the-variants as total
 use Rattle.accounts.specs.declared.accountant.SendAccountant.{SendAccountant}
 use Rattle.accounts.specs.declared.accountant.Sent.{Sent}
 use Rattle.accounts.specs.declared.stats.DirectionStats.{DirectionStats}
@@ -19,18 +19,20 @@ use Rattle.accounts.specs.Counters.{areCounters, accountantCounters, sta
 
 unfoldable pub onSendOf : SendAccountant → ℕ → Float → Sent
 onSendOf a n x =
-    cond (isLengthOf n)
-    (cond (areCounters (accountantCounters a)) (record { accountant = sentOf a n x; answer = Done }) (record { accountant = a; answer = Refused refusedCounter }))
-    (record { accountant = a; answer = Refused refusedLength })
+    cond (not (isLengthOf n)) (record { accountant = a; answer = Refused refusedLength })
+    (cond (not (areCounters (accountantCounters a))) (record { accountant = a; answer = Refused refusedCounter })
+    (record { accountant = sentOf a n x; answer = Done }))
 
 unfoldable pub recordDeliveredOf : DirectionStats → Float → Updated
 recordDeliveredOf s x =
-    cond (areCounters (statsCounters s)) (record { stats = withLatenciesOf s (recordedOf (latenciesOf s) x); answer = Done }) (record { stats = s; answer = Refused refusedCounter })
+    cond (not (areCounters (statsCounters s))) (record { stats = s; answer = Refused refusedCounter })
+    (record { stats = withLatenciesOf s (recordedOf (latenciesOf s) x); answer = Done })
 
 unfoldable pub totalDroppedOf : DirectionStats → TotalDropped
-totalDroppedOf s = cond (areCounters (statsCounters s)) (Dropped (totalOf s)) (Untold refusedCounter)
+totalDroppedOf s = cond (not (areCounters (statsCounters s))) (total.Refused refusedCounter) (total.Dropped (totalOf s))
 
 -- the counters of both records are judged
 unfoldable pub mergeIntoOf : SendAccountant → DirectionStats → Updated
 mergeIntoOf a s =
-    cond (areCounters (accountantCounters a) && areCounters (statsCounters s)) (record { stats = mergedOf a s; answer = Done }) (record { stats = s; answer = Refused refusedCounter })
+    cond (not (areCounters (accountantCounters a) && areCounters (statsCounters s))) (record { stats = s; answer = Refused refusedCounter })
+    (record { stats = mergedOf a s; answer = Done })

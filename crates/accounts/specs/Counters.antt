@@ -1,8 +1,7 @@
--- Refusal 25: "a counter handed in is 2^60 or more".
+-- Refusal 25: a counter of a record that is handed in is 2^60 or more.
 use mathlib.Core.Bool.{Bool, true, _&&_}
 use mathlib.Core.List.{List, [], _∷_}
 use Prim.Native.Nat.{ℕ}
-use lib.Bits.{bitOr}
 use Rattle.numbers.specs.Limits.{isCounterOf}
 use Rattle.accounts.specs.declared.latency.LatencyStats.{LatencyStats}
 use Rattle.accounts.specs.declared.accountant.SendAccountant.{SendAccountant}
@@ -24,8 +23,3 @@ statsCounters s =
 abbrev pub areCounters : List ℕ → Bool
 areCounters [] = true
 areCounters (n ∷ ns) = isCounterOf n && areCounters ns
-
--- the bits of n and of every number of a list together
-abbrev pub bitsFrom : ℕ → List ℕ → ℕ
-bitsFrom n [] = n
-bitsFrom n (m ∷ ms) = bitsFrom (bitOr n m) ms

@@ -1,6 +1,6 @@
 use crate::buckets::N_BUCKETS;
 ghost use mathlib.Core.Path.{_≡_};
-ghost use Rattle.accounts.specs.Counters.{bitsFrom};
+ghost use Rattle.accounts.specs.Bits.{bitsFrom};
 
 // The bits of all counters of a histogram together.
 pub fn counter_bits(hist: [u64; N_BUCKETS]) -> u64

@@ -8,7 +8,8 @@ use lib.Bits.{bitOr}
 use lib.ListN.{getD, drop}
 use Rattle.numbers.specs.Limits.{isCounterOf}
 use Rattle.numbers.specs.Laws.Limits.{counter-below, counters-or}
-use Rattle.accounts.specs.Counters.{areCounters, bitsFrom}
+use Rattle.accounts.specs.Counters.{areCounters}
+use Rattle.accounts.specs.Bits.{bitsFrom}
 
 first-counter : (n : ℕ) (ns : List ℕ) → areCounters (n ∷ ns) ≡ true → n < 2 ^ 60
 first-counter n ns h = counter-below n (and-eq-true-iff (isCounterOf n) (areCounters ns) .0 h .0)

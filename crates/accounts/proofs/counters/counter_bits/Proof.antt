@@ -7,7 +7,7 @@ use Prim.Native.Nat.{ℕ, _+_, _-_, _≤_, _<_}
 use lib.Seq.{drop-cons}
 use lib.ListN.{length, getD, drop, drop-of-length-le}
 use lib.Bits.{bitOr}
-use Rattle.accounts.specs.Counters.{bitsFrom}
+use Rattle.accounts.specs.Bits.{bitsFrom}
 use Rattle.accounts.proofs.counters.counter_bits.Statement.{statement}
 use Rattle.accounts.proofs.counters.counter_bits.Tie as tie
 
