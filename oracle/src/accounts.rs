@@ -65,6 +65,23 @@ fn deliver(s: &mut DirectionStats, latency_ms: f64) {
     println!("record_delivered{}{}", float(latency_ms), statistics(s));
 }
 
+fn counted(a: &mut SendAccountant, s: &mut DirectionStats, len: usize, latency_ms: f64) {
+    send(a, len, latency_ms);
+    deliver(s, latency_ms);
+}
+
+fn pair(x: f64, y: f64) {
+    for count in [0, 5] {
+        send(&mut some_sends(count, x), 7, y);
+    }
+    for count in [0, 3] {
+        deliver(&mut some_stats(count, x), y);
+    }
+    for (m, n) in [(0, 0), (0, 5), (3, 0), (3, 5)] {
+        merge(some_stats(m, x), some_sends(n, y));
+    }
+}
+
 // Of two zeros as maximum Rust may take either, so both get the target's.
 fn merge(mut s: DirectionStats, mut a: SendAccountant) {
     if s.latency_max_ms == 0.0 && a.latency.max_ms == 0.0 {
@@ -167,33 +184,16 @@ fn long_run(seed: u64) {
 
 fn main() {
     let latencies = latencies();
-    for x in &latencies {
-        send(&mut SendAccountant::default(), 100, *x);
-        deliver(&mut DirectionStats::default(), *x);
-    }
     let (mut a, mut s) = (SendAccountant::default(), some_stats(0, 0.0));
+    let (mut b, mut t) = (some_sends(0, 0.0), DirectionStats::default());
     for (k, x) in latencies.iter().enumerate() {
-        send(&mut a, k, *x);
-        deliver(&mut s, *x);
-    }
-    let (mut a, mut s) = (some_sends(0, 0.0), DirectionStats::default());
-    for (k, x) in latencies.iter().rev().enumerate() {
-        send(&mut a, 2048 - k, *x);
-        deliver(&mut s, *x);
+        counted(&mut SendAccountant::default(), &mut DirectionStats::default(), 100, *x);
+        counted(&mut a, &mut s, k, *x);
+        counted(&mut b, &mut t, 2048 - k, latencies[46 - k]);
     }
     for x in EDGES {
         for y in EDGES {
-            for count in [0, 5] {
-                send(&mut some_sends(count, x), 7, y);
-                deliver(&mut some_stats(count, x), y);
-            }
-        }
-    }
-    for x in EDGES {
-        for y in EDGES {
-            for (m, n) in [(0, 0), (0, 5), (3, 0), (3, 5)] {
-                merge(some_stats(m, x), some_sends(n, y));
-            }
+            pair(x, y);
         }
     }
     send(&mut full_sends(), 2048, 0.5);

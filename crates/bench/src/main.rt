@@ -27,9 +27,8 @@ fn print(a: SendAccountant) {
         count(0);
     }
     let hist = l.hist;
-    for i in 0..12 {
-        count(hist[i]);
-    }
+    count(hist[0]);
+    count(hist[11]);
 }
 
 // The number in decimal on a line of its own.

@@ -22,11 +22,8 @@ fn main() {
     refusals::merges();
     oracle_draws::draws();
     oracle_draws::extremes();
-    oracle_accounts::first_latencies();
-    oracle_accounts::forwards();
-    oracle_accounts::backwards();
-    oracle_accounts::states();
-    oracle_accounts::merges();
+    oracle_accounts::runs();
+    oracle_accounts::pairs();
     oracle_accounts::full_records();
     oracle_accounts::totals();
     oracle_accounts::long_runs();

@@ -7,59 +7,79 @@ use crate::records;
 use accounts::DirectionStats;
 use accounts::LatencyStats;
 use accounts::SendAccountant;
+ghost use Prim.Native.Nat.{_<_};
 
-// Each latency on records that have none yet.
-pub fn first_latencies() {
-    for i in 0..47 {
-        let x = latencies::at(i);
-        send(SendAccountant::default(), 100, x);
-        deliver(DirectionStats::default(), x);
-    }
+// The records of the run from the first latency to the last, and of the one from the last to the first.
+struct Both {
+    forwards: Records,
+    backwards: Records,
 }
 
-// All latencies one after the other on the same records.
-pub fn forwards() {
-    let mut a = SendAccountant::default();
-    let mut s = some_stats(0, 0.0);
+struct Records {
+    accountant: SendAccountant,
+    stats: DirectionStats,
+}
+
+// Each latency on records that have none yet, and all of them one after the other from the first and from the last, a NaN.
+pub fn runs() {
+    let mut runs = Both {
+        forwards: Records {
+            accountant: SendAccountant::default(),
+            stats: some_stats(0, 0.0),
+        },
+        backwards: Records {
+            accountant: some_sends(0, 0.0),
+            stats: DirectionStats::default(),
+        },
+    };
     for k in 0..47 {
-        let x = latencies::at(k);
-        a = send(a, k, x);
-        s = deliver(s, x);
+        runs = turn(runs, k);
     }
 }
 
-// The same from the last to the first, so that a NaN comes first.
-pub fn backwards() {
-    let mut a = some_sends(0, 0.0);
-    let mut s = DirectionStats::default();
-    for k in 0..47 {
-        let x = latencies::at(46 - k);
-        a = send(a, 2048 - k, x);
-        s = deliver(s, x);
+fn turn(runs: Both, k: usize) -> Both
+    requires { ⌜ k < 47 ⌝ }
+{
+    let fresh = Records {
+        accountant: SendAccountant::default(),
+        stats: DirectionStats::default(),
+    };
+    counted(fresh, 100, latencies::at(k));
+    let forwards = runs.forwards;
+    let backwards = runs.backwards;
+    Both {
+        forwards: counted(forwards, k, latencies::at(k)),
+        backwards: counted(backwards, 2048 - k, latencies::at(46 - k)),
     }
 }
 
-// Every pair of eight floats, as what the records hold and as the latency, with and without latencies before it.
-pub fn states() {
-    for k in 0..128 {
-        let x = floats::edge(k / 16);
-        let y = floats::edge(k / 2);
-        let count = (k % 2 * 5) as u64;
-        send(some_sends(count, x), 7, y);
-        deliver(some_stats(count, x), y);
+// The latency on both records.
+fn counted(r: Records, len: usize, latency_ms: f64) -> Records {
+    let a = r.accountant;
+    let s = r.stats;
+    Records {
+        accountant: send(a, len, latency_ms),
+        stats: deliver(s, latency_ms),
     }
 }
 
-// Every pair of eight floats, as what the target and the accountant hold, each with and without latencies.
-pub fn merges() {
-    for k in 0..256 {
-        let x = floats::edge(k / 32);
-        let y = floats::edge(k / 4);
-        merge(
-            some_stats((k / 2 % 2 * 3) as u64, x),
-            some_sends((k % 2 * 5) as u64, y),
-        );
+// Every pair of eight floats.
+pub fn pairs() {
+    for k in 0..64 {
+        pair(floats::edge(k / 8), floats::edge(k));
     }
+}
+
+// What the records hold, and the latency or what the other record holds, each record with and without latencies.
+fn pair(x: f64, y: f64) {
+    send(some_sends(0, x), 7, y);
+    send(some_sends(5, x), 7, y);
+    deliver(some_stats(0, x), y);
+    deliver(some_stats(3, x), y);
+    merge(some_stats(0, x), some_sends(0, y));
+    merge(some_stats(0, x), some_sends(5, y));
+    merge(some_stats(3, x), some_sends(0, y));
+    merge(some_stats(3, x), some_sends(5, y));
 }
 
 // The largest counters that refusal 25 lets through.
@@ -76,9 +96,14 @@ pub fn totals() {
 }
 
 pub fn long_runs() {
-    for seed in 1..9 {
-        accounts_run::long_run(seed);
-    }
+    accounts_run::long_run(1);
+    accounts_run::long_run(2);
+    accounts_run::long_run(3);
+    accounts_run::long_run(4);
+    accounts_run::long_run(5);
+    accounts_run::long_run(6);
+    accounts_run::long_run(7);
+    accounts_run::long_run(8);
 }
 
 // Sends a packet, prints the accountant, and gives it back.
