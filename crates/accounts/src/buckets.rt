@@ -2,7 +2,7 @@ ghost use mathlib.Core.Path.{_≡_};
 ghost use Rattle.accounts.specs.Buckets.{bucketIndexOf};
 
 // How many buckets a histogram has: one below each bound, and one for the rest.
-pub const N_BUCKETS: usize = 12;
+pub(crate) const N_BUCKETS: usize = 12;
 
 // The bound above each bucket but the last, in milliseconds.
 const BUCKET_BOUNDS_MS: [f64; 11] = [

@@ -6,7 +6,7 @@ ghost use Rattle.accounts.specs.Latency.{joinedMinimumOf, joinedMaximumO
 ghost use Rattle.accounts.specs.Counters.{areCounters, latencyCounters};
 
 // The target with the latencies of another record joined.
-pub fn joined(target: LatencyStats, l: LatencyStats) -> LatencyStats
+pub(crate) fn joined(target: LatencyStats, l: LatencyStats) -> LatencyStats
     requires { ⌜ (areCounters (latencyCounters target) ≡ true) × (areCounters (latencyCounters l) ≡ true) ⌝ }
     ensures { λ r. ⌜ r ≡ joinedOf target l ⌝ }
 {

@@ -30,7 +30,7 @@ impl LatencyStats {
 }
 
 // One latency more.
-pub fn recorded(mut l: LatencyStats, latency_ms: f64) -> LatencyStats
+pub(crate) fn recorded(mut l: LatencyStats, latency_ms: f64) -> LatencyStats
     requires { ⌜ areCounters (latencyCounters l) ≡ true ⌝ }
     ensures { λ r. ⌜ r ≡ recordedOf l «latency_ms» ⌝ }
 {

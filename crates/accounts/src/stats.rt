@@ -129,7 +129,7 @@ impl DirectionStats {
 }
 
 // The latencies among the statistics.
-pub fn latencies(s: DirectionStats) -> LatencyStats
+pub(crate) fn latencies(s: DirectionStats) -> LatencyStats
     ensures { λ r. ⌜ r ≡ latenciesOf s ⌝ }
 {
     let hist = s.hist;
@@ -143,7 +143,7 @@ pub fn latencies(s: DirectionStats) -> LatencyStats
 }
 
 // The statistics with these latencies in place of their own.
-pub fn with_latencies(mut s: DirectionStats, l: LatencyStats) -> DirectionStats
+pub(crate) fn with_latencies(mut s: DirectionStats, l: LatencyStats) -> DirectionStats
     ensures { λ r. ⌜ r ≡ withLatenciesOf s l ⌝ }
 {
     let hist = l.hist;

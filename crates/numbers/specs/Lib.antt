@@ -1,5 +1,6 @@
--- Read first the definitions, in this order: Whole (a whole number as a float), Wrapping (the product modulo 2 ^ 64), Extremes (maximum and minimum), Instant (refusal 21), Limits
--- (refusals 22 and 25), Refusals (their numbers), Digits (digits as a whole number, a decimal's value). Laws holds what is proved about them and about floats; a layer above cites it and not the definitions' text.
+-- Read first the definitions, in this order: Whole (a whole number as a float), Wrapping (the product modulo 2 ^ 64), Extremes (maximum and minimum),
+-- Instant (refusal 21), Limits (refusals 22 and 25), Refusals (their numbers), Digits (digits as a whole number, a decimal's value). Laws holds what is
+-- proved about them and about floats; a layer above cites it and not the definitions' text.
 pub mod Whole
 pub mod Wrapping
 pub mod Extremes
