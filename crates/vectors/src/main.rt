@@ -9,6 +9,7 @@ mod papers;
 mod print;
 mod records;
 mod refusals;
+mod samples;
 
 fn main() {
     papers::splitmix64();

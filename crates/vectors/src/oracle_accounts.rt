@@ -4,8 +4,8 @@ use crate::floats;
 use crate::latencies;
 use crate::print;
 use crate::records;
+use crate::samples;
 use accounts::DirectionStats;
-use accounts::LatencyStats;
 use accounts::SendAccountant;
 ghost use Prim.Native.Nat.{_<_};
 
@@ -25,10 +25,10 @@ pub fn runs() {
     let mut runs = Both {
         forwards: Records {
             accountant: SendAccountant::default(),
-            stats: some_stats(0, 0.0),
+            stats: samples::some_stats(0, 0.0),
         },
         backwards: Records {
-            accountant: some_sends(0, 0.0),
+            accountant: samples::some_sends(0, 0.0),
             stats: DirectionStats::default(),
         },
     };
@@ -72,27 +72,27 @@ pub fn pairs() {
 
 // What the records hold, and the latency or what the other record holds, each record with and without latencies.
 fn pair(x: f64, y: f64) {
-    send(some_sends(0, x), 7, y);
-    send(some_sends(5, x), 7, y);
-    deliver(some_stats(0, x), y);
-    deliver(some_stats(3, x), y);
-    merge(some_stats(0, x), some_sends(0, y));
-    merge(some_stats(0, x), some_sends(5, y));
-    merge(some_stats(3, x), some_sends(0, y));
-    merge(some_stats(3, x), some_sends(5, y));
+    send(samples::some_sends(0, x), 7, y);
+    send(samples::some_sends(5, x), 7, y);
+    deliver(samples::some_stats(0, x), y);
+    deliver(samples::some_stats(3, x), y);
+    merge(samples::some_stats(0, x), samples::some_sends(0, y));
+    merge(samples::some_stats(0, x), samples::some_sends(5, y));
+    merge(samples::some_stats(3, x), samples::some_sends(0, y));
+    merge(samples::some_stats(3, x), samples::some_sends(5, y));
 }
 
 // The largest counters that refusal 25 lets through.
 pub fn full_records() {
-    send(full_sends(), 2048, 0.5);
-    deliver(full_stats(), 0.5);
-    merge(full_stats(), full_sends());
+    send(samples::full_sends(), 2048, 0.5);
+    deliver(samples::full_stats(), 0.5);
+    merge(samples::full_stats(), samples::full_sends());
 }
 
 pub fn totals() {
     total(DirectionStats::default());
-    total(some_stats(0, 0.0));
-    total(full_stats());
+    total(samples::some_stats(0, 0.0));
+    total(samples::full_stats());
 }
 
 pub fn long_runs() {
@@ -139,94 +139,7 @@ fn merge(s: DirectionStats, mut a: SendAccountant) {
     records::stats(merged.stats);
 }
 
-// An accountant whose counters all differ, with this count of latencies and this sum, minimum and maximum.
-fn some_sends(count: u64, x: f64) -> SendAccountant {
-    SendAccountant {
-        sent_pkts: 7,
-        sent_bytes: 11,
-        dropped_overflow: 13,
-        tcp_rst_kills: 17,
-        nat_rebinds: 19,
-        latency: LatencyStats {
-            count,
-            sum_ms: x,
-            min_ms: x,
-            max_ms: x,
-            hist: [31, 32, 33, 34, 35, 36, 37, 38, 39, 40, 41, 42],
-        },
-    }
-}
-
-// Statistics whose counters all differ, with this count of latencies and this sum, minimum and maximum.
-fn some_stats(count: u64, x: f64) -> DirectionStats {
-    DirectionStats {
-        received_pkts: 100,
-        received_bytes: 201,
-        sent_pkts: 302,
-        sent_bytes: 403,
-        dropped_random: 504,
-        dropped_ge: 605,
-        dropped_mtu: 706,
-        dropped_blackout: 807,
-        dropped_overflow: 908,
-        duplicates: 1009,
-        reorder_hits: 1110,
-        rate_deferred: 1211,
-        nat_rebinds: 1312,
-        tcp_rst_kills: 1413,
-        latency_count: count,
-        latency_sum_ms: x,
-        latency_min_ms: x,
-        latency_max_ms: x,
-        hist: [51, 52, 53, 54, 55, 56, 57, 58, 59, 60, 61, 62],
-    }
-}
-
 fn total(s: DirectionStats) {
     print::text(b"total_dropped");
     records::total(s.total_dropped());
-}
-
-// The largest counter that refusal 25 lets through.
-const TOP: u64 = 0xFFF_FFFF_FFFF_FFFF;
-
-fn full_sends() -> SendAccountant {
-    SendAccountant {
-        sent_pkts: TOP,
-        sent_bytes: TOP,
-        dropped_overflow: TOP,
-        tcp_rst_kills: TOP,
-        nat_rebinds: TOP,
-        latency: LatencyStats {
-            count: TOP,
-            sum_ms: 1.0,
-            min_ms: 1.0,
-            max_ms: 1.0,
-            hist: [TOP; 12],
-        },
-    }
-}
-
-fn full_stats() -> DirectionStats {
-    DirectionStats {
-        received_pkts: TOP,
-        received_bytes: TOP,
-        sent_pkts: TOP,
-        sent_bytes: TOP,
-        dropped_random: TOP,
-        dropped_ge: TOP,
-        dropped_mtu: TOP,
-        dropped_blackout: TOP,
-        dropped_overflow: TOP,
-        duplicates: TOP,
-        reorder_hits: TOP,
-        rate_deferred: TOP,
-        nat_rebinds: TOP,
-        tcp_rst_kills: TOP,
-        latency_count: TOP,
-        latency_sum_ms: 2.0,
-        latency_min_ms: 2.0,
-        latency_max_ms: 2.0,
-        hist: [TOP; 12],
-    }
 }
