@@ -70,15 +70,18 @@ fn counted(a: &mut SendAccountant, s: &mut DirectionStats, len: usize, latency_m
     deliver(s, latency_ms);
 }
 
-fn pair(x: f64, y: f64) {
+fn states(i: usize, latency_ms: f64) {
     for count in [0, 5] {
-        send(&mut some_sends(count, x), 7, y);
+        send(&mut some_sends(count, i), 7, latency_ms);
     }
     for count in [0, 3] {
-        deliver(&mut some_stats(count, x), y);
+        deliver(&mut some_stats(count, i), latency_ms);
     }
+}
+
+fn merges(i: usize, j: usize) {
     for (m, n) in [(0, 0), (0, 5), (3, 0), (3, 5)] {
-        merge(some_stats(m, x), some_sends(n, y));
+        merge(some_stats(m, i), some_sends(n, j));
     }
 }
 
@@ -91,7 +94,13 @@ fn merge(mut s: DirectionStats, mut a: SendAccountant) {
     println!("merge_into{}", statistics(&s));
 }
 
-fn some_sends(count: u64, x: f64) -> SendAccountant {
+// The floats at i: the sum, the minimum and the maximum are all different.
+fn floats(i: usize) -> [f64; 3] {
+    [EDGES[(i + 1) % 8], EDGES[i], EDGES[(i + 3) % 8]]
+}
+
+fn some_sends(count: u64, i: usize) -> SendAccountant {
+    let [sum_ms, min_ms, max_ms] = floats(i);
     let hist = [31, 32, 33, 34, 35, 36, 37, 38, 39, 40, 41, 42];
     SendAccountant {
         sent_pkts: 7,
@@ -99,11 +108,12 @@ fn some_sends(count: u64, x: f64) -> SendAccountant {
         dropped_overflow: 13,
         tcp_rst_kills: 17,
         nat_rebinds: 19,
-        latency: LatencyStats { count, sum_ms: x, min_ms: x, max_ms: x, hist },
+        latency: LatencyStats { count, sum_ms, min_ms, max_ms, hist },
     }
 }
 
-fn some_stats(count: u64, x: f64) -> DirectionStats {
+fn some_stats(count: u64, i: usize) -> DirectionStats {
+    let [latency_sum_ms, latency_min_ms, latency_max_ms] = floats(i);
     DirectionStats {
         received_pkts: 100,
         received_bytes: 201,
@@ -120,9 +130,9 @@ fn some_stats(count: u64, x: f64) -> DirectionStats {
         nat_rebinds: 1312,
         tcp_rst_kills: 1413,
         latency_count: count,
-        latency_sum_ms: x,
-        latency_min_ms: x,
-        latency_max_ms: x,
+        latency_sum_ms,
+        latency_min_ms,
+        latency_max_ms,
         hist: [51, 52, 53, 54, 55, 56, 57, 58, 59, 60, 61, 62],
     }
 }
@@ -137,7 +147,7 @@ fn full_sends() -> SendAccountant {
         dropped_overflow: TOP,
         tcp_rst_kills: TOP,
         nat_rebinds: TOP,
-        latency: LatencyStats { count: TOP, sum_ms: 1.0, min_ms: 1.0, max_ms: 1.0, hist: [TOP; 12] },
+        latency: LatencyStats { count: TOP, sum_ms: 8.0, min_ms: 1.0, max_ms: 4.0, hist: [TOP; 12] },
     }
 }
 
@@ -158,9 +168,9 @@ fn full_stats() -> DirectionStats {
         nat_rebinds: TOP,
         tcp_rst_kills: TOP,
         latency_count: TOP,
-        latency_sum_ms: 2.0,
+        latency_sum_ms: 16.0,
         latency_min_ms: 2.0,
-        latency_max_ms: 2.0,
+        latency_max_ms: 3.0,
         hist: [TOP; 12],
     }
 }
@@ -184,22 +194,23 @@ fn long_run(seed: u64) {
 
 fn main() {
     let latencies = latencies();
-    let (mut a, mut s) = (SendAccountant::default(), some_stats(0, 0.0));
-    let (mut b, mut t) = (some_sends(0, 0.0), DirectionStats::default());
+    let (mut a, mut s) = (SendAccountant::default(), some_stats(0, 0));
+    let (mut b, mut t) = (some_sends(0, 0), DirectionStats::default());
     for (k, x) in latencies.iter().enumerate() {
         counted(&mut SendAccountant::default(), &mut DirectionStats::default(), 100, *x);
         counted(&mut a, &mut s, k, *x);
         counted(&mut b, &mut t, 2048 - k, latencies[46 - k]);
     }
-    for x in EDGES {
-        for y in EDGES {
-            pair(x, y);
+    for i in 0..8 {
+        for j in 0..8 {
+            states(i, EDGES[j]);
+            merges(i, j);
         }
     }
     send(&mut full_sends(), 2048, 0.5);
     deliver(&mut full_stats(), 0.5);
     merge(full_stats(), full_sends());
-    for s in [DirectionStats::default(), some_stats(0, 0.0), full_stats()] {
+    for s in [DirectionStats::default(), some_stats(0, 0), full_stats()] {
         println!("total_dropped{}", count(s.total_dropped()));
     }
     for seed in 1..=8 {

@@ -27,7 +27,7 @@ pub fn at(i: usize) -> f64 {
     }
 }
 
-// Where eight of them stand: both zeros, 0.1, 1, -1, infinities, NaN.
+// Where eight of them stand: both zeros, 0.1, 1, -1, infinities, NaN; behind the last comes the first again.
 const EDGES: [usize; 8] = [0, 1, 4, 6, 7, 13, 14, 15];
 
 pub fn edge(i: usize) -> f64 {

@@ -25,10 +25,10 @@ pub fn runs() {
     let mut runs = Both {
         forwards: Records {
             accountant: SendAccountant::default(),
-            stats: samples::some_stats(0, 0.0),
+            stats: samples::some_stats(0, 0),
         },
         backwards: Records {
-            accountant: samples::some_sends(0, 0.0),
+            accountant: samples::some_sends(0, 0),
             stats: DirectionStats::default(),
         },
     };
@@ -63,23 +63,28 @@ fn counted(r: Records, len: usize, latency_ms: f64) -> Records {
     }
 }
 
-// Every pair of eight floats.
+// Every pair of eight floats, as what the records hold, and as that and the latency.
 pub fn pairs() {
     for k in 0..64 {
-        pair(floats::edge(k / 8), floats::edge(k));
+        states(k / 8, floats::edge(k));
+        merges(k / 8, k);
     }
 }
 
-// What the records hold, and the latency or what the other record holds, each record with and without latencies.
-fn pair(x: f64, y: f64) {
-    send(samples::some_sends(0, x), 7, y);
-    send(samples::some_sends(5, x), 7, y);
-    deliver(samples::some_stats(0, x), y);
-    deliver(samples::some_stats(3, x), y);
-    merge(samples::some_stats(0, x), samples::some_sends(0, y));
-    merge(samples::some_stats(0, x), samples::some_sends(5, y));
-    merge(samples::some_stats(3, x), samples::some_sends(0, y));
-    merge(samples::some_stats(3, x), samples::some_sends(5, y));
+// The latency on records that hold the floats at i, with and without latencies before it.
+fn states(i: usize, latency_ms: f64) {
+    send(samples::some_sends(0, i), 7, latency_ms);
+    send(samples::some_sends(5, i), 7, latency_ms);
+    deliver(samples::some_stats(0, i), latency_ms);
+    deliver(samples::some_stats(3, i), latency_ms);
+}
+
+// A target that holds the floats at i and an accountant that holds those at j, each with and without latencies.
+fn merges(i: usize, j: usize) {
+    merge(samples::some_stats(0, i), samples::some_sends(0, j));
+    merge(samples::some_stats(0, i), samples::some_sends(5, j));
+    merge(samples::some_stats(3, i), samples::some_sends(0, j));
+    merge(samples::some_stats(3, i), samples::some_sends(5, j));
 }
 
 // The largest counters that refusal 25 lets through.
@@ -91,7 +96,7 @@ pub fn full_records() {
 
 pub fn totals() {
     total(DirectionStats::default());
-    total(samples::some_stats(0, 0.0));
+    total(samples::some_stats(0, 0));
     total(samples::full_stats());
 }
 

@@ -66,7 +66,6 @@ pub fn outcome(o: Outcome) {
         Outcome::Done => print::text(b" done"),
         Outcome::Refused(n) => refused(n),
     }
-    print::end();
 }
 
 fn refused(n: u32) {

@@ -1,4 +1,4 @@
-// Calls of the accounts at the limits of refusals 22 and 25.
+// Calls of the accounts at the limits of refusals 22 and 25: the answer, and the record that comes back.
 use crate::print;
 use crate::records;
 use accounts::DirectionStats;
@@ -54,6 +54,8 @@ fn send(name: &[u8], a: SendAccountant, len: usize) {
     let sent = a.on_send(len, 1.0);
     let answer = sent.answer;
     records::outcome(answer);
+    let after = sent.accountant;
+    records::accountant(after);
 }
 
 // What record_delivered and total_dropped answer.
@@ -63,6 +65,8 @@ fn deliver(name: &[u8], s: DirectionStats) {
     let updated = s.record_delivered(1.0);
     let answer = updated.answer;
     records::outcome(answer);
+    let after = updated.stats;
+    records::stats(after);
     print::text(b"refusal total_dropped ");
     print::text(name);
     records::total(s.total_dropped());
@@ -74,6 +78,8 @@ fn merge(name: &[u8], a: SendAccountant, s: DirectionStats) {
     let merged = a.merge_into(s);
     let answer = merged.answer;
     records::outcome(answer);
+    let after = merged.stats;
+    records::stats(after);
 }
 
 fn with_sent_pkts(n: u64) -> SendAccountant {

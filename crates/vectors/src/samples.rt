@@ -1,4 +1,5 @@
 // Records for the comparison with the Rust source.
+use crate::floats;
 use accounts::DirectionStats;
 use accounts::LatencyStats;
 use accounts::SendAccountant;
@@ -6,8 +7,8 @@ use accounts::SendAccountant;
 // The largest counter that refusal 25 lets through.
 const TOP: u64 = 0xFFF_FFFF_FFFF_FFFF;
 
-// An accountant whose counters all differ, with this count of latencies and this sum, minimum and maximum.
-pub fn some_sends(count: u64, x: f64) -> SendAccountant {
+// An accountant whose counters all differ, with this count of latencies and three different floats, the minimum being edge i.
+pub fn some_sends(count: u64, i: usize) -> SendAccountant {
     SendAccountant {
         sent_pkts: 7,
         sent_bytes: 11,
@@ -16,16 +17,16 @@ pub fn some_sends(count: u64, x: f64) -> SendAccountant {
         nat_rebinds: 19,
         latency: LatencyStats {
             count,
-            sum_ms: x,
-            min_ms: x,
-            max_ms: x,
+            sum_ms: floats::edge(i % 8 + 1),
+            min_ms: floats::edge(i),
+            max_ms: floats::edge(i % 8 + 3),
             hist: [31, 32, 33, 34, 35, 36, 37, 38, 39, 40, 41, 42],
         },
     }
 }
 
-// Statistics whose counters all differ, with this count of latencies and this sum, minimum and maximum.
-pub fn some_stats(count: u64, x: f64) -> DirectionStats {
+// Statistics whose counters all differ, with this count of latencies and three different floats, the minimum being edge i.
+pub fn some_stats(count: u64, i: usize) -> DirectionStats {
     DirectionStats {
         received_pkts: 100,
         received_bytes: 201,
@@ -42,9 +43,9 @@ pub fn some_stats(count: u64, x: f64) -> DirectionStats {
         nat_rebinds: 1312,
         tcp_rst_kills: 1413,
         latency_count: count,
-        latency_sum_ms: x,
-        latency_min_ms: x,
-        latency_max_ms: x,
+        latency_sum_ms: floats::edge(i % 8 + 1),
+        latency_min_ms: floats::edge(i),
+        latency_max_ms: floats::edge(i % 8 + 3),
         hist: [51, 52, 53, 54, 55, 56, 57, 58, 59, 60, 61, 62],
     }
 }
@@ -59,9 +60,9 @@ pub fn full_sends() -> SendAccountant {
         nat_rebinds: TOP,
         latency: LatencyStats {
             count: TOP,
-            sum_ms: 1.0,
+            sum_ms: 8.0,
             min_ms: 1.0,
-            max_ms: 1.0,
+            max_ms: 4.0,
             hist: [TOP; 12],
         },
     }
@@ -85,9 +86,9 @@ pub fn full_stats() -> DirectionStats {
         nat_rebinds: TOP,
         tcp_rst_kills: TOP,
         latency_count: TOP,
-        latency_sum_ms: 2.0,
+        latency_sum_ms: 16.0,
         latency_min_ms: 2.0,
-        latency_max_ms: 2.0,
+        latency_max_ms: 3.0,
         hist: [TOP; 12],
     }
 }

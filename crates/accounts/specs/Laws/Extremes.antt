@@ -1,4 +1,4 @@
--- For latencies that are numbers the record's minimum is below none of them and its maximum is above none, however many there are.
+-- For latencies that are numbers the record's minimum is above none of them and its maximum below none, however many there are.
 use mathlib.Core.Path.{_≡_, refl}
 use mathlib.Core.Logic.{_≢_}
 use mathlib.Core.Bool.{false, _||_}

@@ -16,11 +16,11 @@ loop-holds c = search needs
 edge-requires : tie.Need-edge-requires Inv-loop μ-loop
 edge-requires c κs = search needs
 
-edge-requires-2 : tie.Need-edge-requires-2 Inv-loop μ-loop
-edge-requires-2 c κs = search needs
+states-requires : tie.Need-states-requires Inv-loop μ-loop
+states-requires c κs = search needs
 
-pair-requires : tie.Need-pair-requires Inv-loop μ-loop
-pair-requires c κs = search needs
+merges-requires : tie.Need-merges-requires Inv-loop μ-loop
+merges-requires c κs = search needs
 
 add-k : tie.Need-add-k Inv-loop μ-loop
 add-k c = search needs
@@ -42,8 +42,8 @@ pairs-spec =
     μ-loop
     loop-holds
     edge-requires
-    edge-requires-2
-    pair-requires
+    states-requires
+    merges-requires
     add-k
     loop-less
     loop-again
