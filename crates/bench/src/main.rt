@@ -1,4 +1,4 @@
-// The benchmark's loop: fifty million packets are accounted, and what was counted is printed so that none is left out.
+// The benchmark's loop: fifty million packets are accounted, and a part of what was counted is printed, so that the work cannot be left out.
 use accounts::SendAccountant;
 use draws::Rng;
 use libc::STDOUT_FILENO;

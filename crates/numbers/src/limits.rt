@@ -2,10 +2,10 @@ ghost use mathlib.Core.Path.{_≡_};
 ghost use Rattle.numbers.specs.Limits.{isLengthOf, isCounterOf};
 
 // The longest packet in bytes.
-pub const MAX_LENGTH: usize = 2048;
+const MAX_LENGTH: usize = 2048;
 
 // The least number that no counter may have when it is handed in.
-pub const COUNTER_LIMIT: u64 = 0x1000_0000_0000_0000;
+const COUNTER_LIMIT: u64 = 0x1000_0000_0000_0000;
 
 // Whether a packet can have this length: refusal 22 turns away more than 2,048 bytes.
 pub fn is_length(len: usize) -> bool

@@ -4,6 +4,7 @@ use mathlib.Core.Bool.{true, false, _&&_}
 use Prim.Native.Nat.{ℕ}
 use lib.Ieee.{Float}
 use Rattle.numbers.specs.Limits.{isLengthOf}
+use Rattle.numbers.specs.Refusals.{refusedLength, refusedCounter}
 use Rattle.accounts.specs.declared.answers.Outcome.the-variants.{Done, Refused}
 use Rattle.accounts.specs.declared.answers.TotalDropped.the-variants as total
 use Rattle.accounts.specs.declared.accountant.SendAccountant.{SendAccountant}
@@ -19,11 +20,11 @@ module _ (a : SendAccountant) (n : ℕ) (x : Float) where
   unfolding onSendOf
   send-done fits counted = rw (fits, counted)
 
-  pub send-length-refused : isLengthOf n ≡ false → onSendOf a n x ≡ record { accountant = a; answer = Refused 22 }
+  pub send-length-refused : isLengthOf n ≡ false → onSendOf a n x ≡ record { accountant = a; answer = Refused refusedLength }
   unfolding onSendOf
   send-length-refused long = rw long
 
-  pub send-counter-refused : isLengthOf n ≡ true → areCounters (accountantCounters a) ≡ false → onSendOf a n x ≡ record { accountant = a; answer = Refused 25 }
+  pub send-counter-refused : isLengthOf n ≡ true → areCounters (accountantCounters a) ≡ false → onSendOf a n x ≡ record { accountant = a; answer = Refused refusedCounter }
   unfolding onSendOf
   send-counter-refused fits counted = rw (fits, counted)
 
@@ -32,7 +33,7 @@ module _ (a : SendAccountant) (s : DirectionStats) where
   unfolding mergeIntoOf
   merge-done accountant stats = rw (accountant, stats)
 
-  pub merge-refused : (areCounters (accountantCounters a) && areCounters (statsCounters s)) ≡ false → mergeIntoOf a s ≡ record { stats = s; answer = Refused 25 }
+  pub merge-refused : (areCounters (accountantCounters a) && areCounters (statsCounters s)) ≡ false → mergeIntoOf a s ≡ record { stats = s; answer = Refused refusedCounter }
   unfolding mergeIntoOf
   merge-refused counted = rw counted
 
@@ -41,7 +42,7 @@ module _ (s : DirectionStats) where
   unfolding recordDeliveredOf
   delivered-done x counted = rw counted
 
-  pub delivered-refused : (x : Float) → areCounters (statsCounters s) ≡ false → recordDeliveredOf s x ≡ record { stats = s; answer = Refused 25 }
+  pub delivered-refused : (x : Float) → areCounters (statsCounters s) ≡ false → recordDeliveredOf s x ≡ record { stats = s; answer = Refused refusedCounter }
   unfolding recordDeliveredOf
   delivered-refused x counted = rw counted
 
@@ -49,6 +50,6 @@ module _ (s : DirectionStats) where
   unfolding totalDroppedOf
   total-told counted = rw counted
 
-  pub total-refused : areCounters (statsCounters s) ≡ false → totalDroppedOf s ≡ total.Refused 25
+  pub total-refused : areCounters (statsCounters s) ≡ false → totalDroppedOf s ≡ total.Refused refusedCounter
   unfolding totalDroppedOf
   total-refused counted = rw counted

@@ -7,6 +7,7 @@ use native.Mathlib.Omega.{arith}
 use lib.ListN.{length, getD}
 use lib.Ieee.{Float}
 use Rattle.numbers.specs.Limits.{isLengthOf}
+use Rattle.numbers.specs.Refusals.{refusedLength, refusedCounter}
 use Rattle.accounts.specs.declared.answers.Outcome.the-variants.{Done, Refused}
 use Rattle.accounts.specs.declared.accountant.SendAccountant.{SendAccountant}
 use Rattle.accounts.specs.declared.accountant.Sent.{Sent}
@@ -40,21 +41,21 @@ send-counts-one a n x twelve h = go (isLengthOf n) (areCounters (accountantCount
   where
     sent : Bool → Bool → Sent
     sent fits counted =
-        cond (not fits) (record { accountant = a; answer = Refused 22 })
-        (cond (not counted) (record { accountant = a; answer = Refused 25 }) (record { accountant = sentOf a n x; answer = Done }))
+        cond (not fits) (record { accountant = a; answer = Refused refusedLength })
+        (cond (not counted) (record { accountant = a; answer = Refused refusedCounter }) (record { accountant = sentOf a n x; answer = Done }))
 
     go : (fits counted : Bool) → sent fits counted .answer ≡ Done → CountsOne a (sent fits counted .accountant) x
     go true true h = sent-counts a n x twelve
-    go true false h = absurd (refused-not-done 25 h)
-    go false counted h = absurd (refused-not-done 22 h)
+    go true false h = absurd (refused-not-done refusedCounter h)
+    go false counted h = absurd (refused-not-done refusedLength h)
 
 pub merge-adds : (a : SendAccountant) (s : DirectionStats) → mergeIntoOf a s .answer ≡ Done → statsCounters (mergeIntoOf a s .stats) ≡ sums (statsCounters s) (sharedCounters a)
 unfolding mergeIntoOf
 merge-adds a s h = go (areCounters (accountantCounters a) && areCounters (statsCounters s)) h
   where
     merged : Bool → Updated
-    merged counted = cond (not counted) (record { stats = s; answer = Refused 25 }) (record { stats = mergedOf a s; answer = Done })
+    merged counted = cond (not counted) (record { stats = s; answer = Refused refusedCounter }) (record { stats = mergedOf a s; answer = Done })
 
     go : (counted : Bool) → merged counted .answer ≡ Done → statsCounters (merged counted .stats) ≡ sums (statsCounters s) (sharedCounters a)
     go true h = merged-counters a s
-    go false h = absurd (refused-not-done 25 h)
+    go false h = absurd (refused-not-done refusedCounter h)
