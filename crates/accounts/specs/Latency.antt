@@ -46,7 +46,7 @@ unfoldable pub joinedMinimumOf : LatencyStats → LatencyStats → Float
 joinedMinimumOf target l =
     cond (hasLatencies l)
     (cond (eq (target .«min_ms») (whole 0)) (l .«min_ms»)
-    (cond (hasLatencies target) (target .«min_ms») (minimumOf (target .«min_ms») (l .«min_ms»))))
+    (cond (not (hasLatencies target)) (minimumOf (target .«min_ms») (l .«min_ms»)) (target .«min_ms»)))
     (target .«min_ms»)
 
 -- the larger where the accountant has latencies

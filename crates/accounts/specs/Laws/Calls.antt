@@ -29,9 +29,9 @@ module _ (a : SendAccountant) (n : ℕ) (x : Float) where
   send-counter-refused fits counted = rw (fits, counted)
 
 module _ (a : SendAccountant) (s : DirectionStats) where
-  pub merge-done : areCounters (accountantCounters a) ≡ true → areCounters (statsCounters s) ≡ true → mergeIntoOf a s ≡ record { stats = mergedOf a s; answer = Done }
+  pub merge-done : (areCounters (accountantCounters a) && areCounters (statsCounters s)) ≡ true → mergeIntoOf a s ≡ record { stats = mergedOf a s; answer = Done }
   unfolding mergeIntoOf
-  merge-done accountant stats = rw (accountant, stats)
+  merge-done counted = rw counted
 
   pub merge-refused : (areCounters (accountantCounters a) && areCounters (statsCounters s)) ≡ false → mergeIntoOf a s ≡ record { stats = s; answer = Refused refusedCounter }
   unfolding mergeIntoOf

@@ -27,7 +27,7 @@ later-counters ns zero h = h
 later-counters [] (suc i) h = h
 later-counters (n ∷ ns) (suc i) h = later-counters ns i (other-counters n ns h)
 
-pub bits-judge : (n : ℕ) (ns : List ℕ) → isCounterOf (bitsFrom n ns) ≡ (isCounterOf n && areCounters ns)
+bits-judge : (n : ℕ) (ns : List ℕ) → isCounterOf (bitsFrom n ns) ≡ (isCounterOf n && areCounters ns)
 bits-judge n [] = sym (and-true (isCounterOf n))
 bits-judge n (m ∷ ms) = bits-judge (bitOr n m) ms ∙ ap (λ (b : Bool). b && areCounters ms) (counters-or n m) ∙ and-assoc (isCounterOf n) (isCounterOf m) (areCounters ms)
 
