@@ -1,6 +1,6 @@
 -- In order: Kinds (what a float is), NotNan (results that are numbers), Order, Extremes, Sign, Values (a value that fits is its own rounding), Whole
 -- (comparison of whole numbers), Bounded (times and rates), Products, Magnitude, Signed and Transitive (either sign), Sums, Credit and Elapsed (the
--- bucket's bound), Digits, Limits (counters and lengths).
+-- bucket's bound), Digits, Limits (counters and lengths), Nearest (a rounding is the nearest value that fits), Decimals (a decimal's value).
 pub mod Kinds
 pub mod NotNan
 pub mod Order
@@ -18,3 +18,5 @@ pub mod Credit
 pub mod Elapsed
 pub mod Digits
 pub mod Limits
+pub mod Nearest
+pub mod Decimals
