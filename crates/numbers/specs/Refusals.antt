@@ -1,6 +1,86 @@
 -- The numbers of the refusals, as document 01 has them under "Who can cause a refusal".
 use Prim.Native.Nat.{ℕ}
 
+-- "1 over 16,384 bytes"
+abbrev pub refusedTextLength : ℕ
+refusedTextLength = 1
+
+-- "2 last byte of a text with bytes not zero"
+abbrev pub refusedTextEnd : ℕ
+refusedTextEnd = 2
+
+-- "3 a byte above 127"
+abbrev pub refusedByte : ℕ
+refusedByte = 3
+
+-- "4 argument not starting `--`"
+abbrev pub refusedArgument : ℕ
+refusedArgument = 4
+
+-- "5 value lacking"
+abbrev pub refusedValueLacking : ℕ
+refusedValueLacking = 5
+
+-- "6 mode"
+abbrev pub refusedMode : ℕ
+refusedMode = 6
+
+-- "7 whole number malformed"
+abbrev pub refusedWhole : ℕ
+refusedWhole = 7
+
+-- "8 above 2^53"
+abbrev pub refusedWholeAbove : ℕ
+refusedWholeAbove = 8
+
+-- "9 zero for queue-cap, rate-bps, mtu or nat-change-every-ms"
+abbrev pub refusedZero : ℕ
+refusedZero = 9
+
+-- "10 decimal malformed"
+abbrev pub refusedDecimal : ℕ
+refusedDecimal = 10
+
+-- "11 probability above 1"
+abbrev pub refusedProbability : ℕ
+refusedProbability = 11
+
+-- "12 ge not three parts"
+abbrev pub refusedGeParts : ℕ
+refusedGeParts = 12
+
+-- "13 ge p or r zero"
+abbrev pub refusedGeZero : ℕ
+refusedGeZero = 13
+
+-- "14 reorder above 0 with delay 0"
+abbrev pub refusedReorder : ℕ
+refusedReorder = 14
+
+-- "15 window lacks a colon"
+abbrev pub refusedColon : ℕ
+refusedColon = 15
+
+-- "16 end ≤ start"
+abbrev pub refusedWindow : ℕ
+refusedWindow = 16
+
+-- "17 kill not three parts"
+abbrev pub refusedKillParts : ℕ
+refusedKillParts = 17
+
+-- "18 kill style"
+abbrev pub refusedKillStyle : ℕ
+refusedKillStyle = 18
+
+-- "19 over 128"
+abbrev pub refusedEntries : ℕ
+refusedEntries = 19
+
+-- "20 option of the other mode"
+abbrev pub refusedOtherMode : ℕ
+refusedOtherMode = 20
+
 -- "22 length above 2,048"
 abbrev pub refusedLength : ℕ
 refusedLength = 22

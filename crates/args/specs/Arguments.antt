@@ -1,0 +1,95 @@
+-- The arguments of an option text, and what they say of a key.
+use mathlib.Core.Bool.{Bool, true, false, _&&_, cond}
+use mathlib.Core.List.{List, [], _∷_, _++_}
+use Prim.Native.Nat.{ℕ, suc}
+use lib.Dec.{eqb}
+use lib.ListN.{take, drop}
+use Rattle.numbers.specs.Refusals.{refusedArgument, refusedValueLacking}
+use Rattle.values.specs.Bytes.{bytes, same, has, before, behind, dash, equals}
+
+-- "Arguments lie end to end, each closed by a zero byte": a is what was read since the last one
+abbrev pub closed : List ℕ → List ℕ → List (List ℕ)
+closed a [] = []
+closed a (x ∷ s) = cond (eqb x 0) (a ∷ closed [] s) (closed (a ++ x ∷ []) s)
+
+abbrev pub argumentsOf : List ℕ → List (List ℕ)
+argumentsOf s = closed [] s
+
+-- "All `--` pairs at the front are stripped": how many bytes they have, and the key without them
+abbrev pub dashes : List ℕ → ℕ
+dashes [] = 0
+dashes (x ∷ []) = 0
+dashes (x ∷ y ∷ s) = cond (eqb x dash && eqb y dash) (suc (suc (dashes s))) 0
+
+abbrev pub stripped : List ℕ → List ℕ
+stripped k = drop (dashes k) k
+
+-- refusal 4 comes where an argument does not start so
+abbrev pub dashed : List ℕ → Bool
+dashed a = same (take 2 a) (bytes "--")
+
+-- "The first `=` parts key and value"
+abbrev pub keyOf : List ℕ → List ℕ
+keyOf a = stripped (before equals a)
+
+-- a bare flag, or a key and its value
+pub data Item : Type 0 where
+  flag : Item
+  pair : List ℕ → List ℕ → Item
+
+-- what was gathered, and 0 or the refusal that ended it
+pub record Gathered : Type 0 where
+  pub items : List Item
+  pub fault : ℕ
+
+abbrev pub stop : ℕ → Gathered
+stop n = record { items = []; fault = n }
+
+abbrev pub also : Item → Gathered → Gathered
+also i g = record { items = i ∷ g .items; fault = g .fault }
+
+-- a key that waits for the next argument as its value
+pub data Waiting : Type 0 where
+  none : Waiting
+  for : List ℕ → Waiting
+
+-- "otherwise the next argument is the value, even one starting `--`. Only `verbose` takes none, and `--verbose=V` is kept as a scalar"
+abbrev pub gather : Waiting → List (List ℕ) → Gathered
+gather none [] = stop 0
+gather (for k) [] = stop refusedValueLacking
+gather (for k) (v ∷ rest) = also (pair k v) (gather none rest)
+gather none (a ∷ rest) =
+    cond (dashed a)
+    (cond (has equals a) (also (pair (keyOf a) (behind equals a)) (gather none rest))
+    (cond (same (keyOf a) (bytes "verbose")) (also flag (gather none rest)) (gather (for (keyOf a)) rest)))
+    (stop refusedArgument)
+
+unfoldable pub gathered : List ℕ → Gathered
+gathered s = gather none (argumentsOf s)
+
+-- "Keys ending `-blackout` or `-kill` gather in order": the values of a key, in order
+abbrev pub valuesIn : List ℕ → List Item → List (List ℕ)
+valuesIn k [] = []
+valuesIn k (flag ∷ is) = valuesIn k is
+valuesIn k (pair a v ∷ is) = cond (same a k) (v ∷ valuesIn k is) (valuesIn k is)
+
+unfoldable pub valuesOf : List ℕ → List ℕ → List (List ℕ)
+valuesOf k s = valuesIn k (gathered s .items)
+
+-- whether the bare flag is there
+abbrev pub flagIn : List Item → Bool
+flagIn [] = false
+flagIn (flag ∷ is) = true
+flagIn (pair a v ∷ is) = flagIn is
+
+-- "The last scalar counts"
+pub data Value : Type 0 where
+  absent : Value
+  given : List ℕ → Value
+
+abbrev pub lastFrom : Value → List (List ℕ) → Value
+lastFrom x [] = x
+lastFrom x (v ∷ vs) = lastFrom (given v) vs
+
+unfoldable pub lastValueOf : List ℕ → List ℕ → Value
+lastValueOf k s = lastFrom absent (valuesOf k s)

@@ -1,0 +1,74 @@
+-- Whatever `parse_config` answers, its settings pass the judgement of refusal 29.
+use mathlib.Core.Path.{_≡_, refl}
+use mathlib.Core.Bool.{Bool, true, false, cond}
+use mathlib.Core.List.{List}
+use Prim.Native.Nat.{ℕ}
+use native.Mathlib.Omega.{arith}
+use lib.Dec.{eqb}
+use lib.Ieee.{le, ofInt}
+use Rattle.numbers.specs.Whole.{whole}
+use Rattle.options.specs.declared.entries.List.the-variants.{Blackouts, Kills}
+use Rattle.options.specs.Config.{defaultDirection, defaultConfig}
+use Rattle.options.specs.Directions.{lossesOf, delaysOf, limitsOf, schedulesOf, joinedOf, directionOf}
+use Rattle.options.specs.Judgement.{isBounded, isPositive, isSettingsOf}
+use Rattle.options.specs.Parse.{parseOf, settledOf, refusedWith, textRefusalOf, firstRefusal, taken}
+use Rattle.options.specs.Scalars.{scalarsOf}
+use Rattle.options.specs.Laws.Both.{both}
+use Rattle.options.specs.declared.config.Config.{Config}
+use Rattle.options.specs.declared.direction.Directed.{Directed}
+use Rattle.options.specs.declared.scalars.Scalars.{Scalars}
+use Rattle.options.specs.Laws.Bursts.{ge-judged}
+use Rattle.options.specs.Laws.Entries.{kills-judged, windows-judged}
+use Rattle.options.specs.Laws.Numbers.{probability-judged, time-judged, count-judged, positive-judged, cap-judged, rate-judged, mtu-judged, burst-for}
+use Rattle.values.specs.Bytes.{bytes}
+
+pub direction-judged : (s prefix : List ℕ) → isSettingsOf (directionOf s prefix .config) ≡ true
+unfolding isSettingsOf directionOf joinedOf lossesOf delaysOf limitsOf schedulesOf
+direction-judged s prefix =
+    both _ _ (probability-judged _) (both _ _ (ge-judged _) (both _ _ (time-judged _) (both _ _ (time-judged _) (both _ _ (probability-judged _)
+    (both _ _ (time-judged _) (both _ _ (probability-judged _) (both _ _ (rate-judged _) (both _ _ (burst-for _ (count-judged 0 (omega arith) _) _ (rate-judged _))
+    (both _ _ (mtu-judged _) (both _ _ (windows-judged Blackouts _) (both _ _ (positive-judged 0 (omega arith) _) (kills-judged Kills _))))))))))))
+
+pub default-judged : isSettingsOf defaultDirection ≡ true
+unfolding isSettingsOf defaultDirection le ofInt
+default-judged = refl
+
+-- what refusal 29 asks of both directions, and of the whole numbers beside them
+pub record Sound (c : Config) : Type 0 where
+  pub c2s-judged : isSettingsOf (c .c2s) ≡ true
+  pub s2c-judged : isSettingsOf (c .s2c) ≡ true
+  pub duration-judged : isBounded (c .«duration_ms») ≡ true
+  pub queue-cap-judged : isPositive (c .«queue_cap») ≡ true
+
+default-sound : Sound defaultConfig
+unfolding defaultConfig
+default-sound = record { c2s-judged = default-judged; s2c-judged = default-judged; duration-judged = refl; queue-cap-judged = refl }
+
+refused-sound : (k : ℕ) → Sound (refusedWith k .config)
+unfolding refusedWith
+refused-sound k = default-sound
+
+scalars-duration : (s : List ℕ) → isBounded (scalarsOf s .«duration_ms») ≡ true
+unfolding scalarsOf
+scalars-duration s = count-judged 0 (omega arith) _
+
+scalars-cap : (s : List ℕ) → isPositive (scalarsOf s .«queue_cap») ≡ true
+unfolding scalarsOf
+scalars-cap s = cap-judged 100000 refl _
+
+settled-sound : (x : Scalars) (a b : Directed) → isBounded (x .«duration_ms») ≡ true → isPositive (x .«queue_cap») ≡ true → isSettingsOf (a .config) ≡ true → isSettingsOf (b .config) ≡ true → Sound (settledOf x a b .config)
+unfolding settledOf
+settled-sound x a b d q h k = go (eqb (firstRefusal x a b) 0)
+  where
+    go : (t : Bool) → Sound (cond t (taken x a b) (refusedWith (firstRefusal x a b)) .config)
+    go true = record { c2s-judged = h; s2c-judged = k; duration-judged = d; queue-cap-judged = q }
+    go false = refused-sound _
+
+-- whatever the text, the settings of the answer pass
+pub parse-sound : (s : List ℕ) → Sound (parseOf s .config)
+unfolding parseOf
+parse-sound s = go (eqb (textRefusalOf s) 0)
+  where
+    go : (t : Bool) → Sound (cond t (settledOf (scalarsOf s) (directionOf s (bytes "c2s-")) (directionOf s (bytes "s2c-"))) (refusedWith (textRefusalOf s)) .config)
+    go true = settled-sound _ _ _ (scalars-duration s) (scalars-cap s) (direction-judged s (bytes "c2s-")) (direction-judged s (bytes "s2c-"))
+    go false = refused-sound _

@@ -1,0 +1,42 @@
+-- The options that stand for the whole line.
+use mathlib.Core.Bool.{Bool, false, _||_}
+use mathlib.Core.List.{List}
+use Prim.Native.Nat.{ℕ}
+use Rattle.args.specs.Arguments.{Value, absent, given, gathered, flagIn, lastValueOf}
+use Rattle.values.specs.Bytes.{bytes, same}
+use Rattle.options.specs.declared.mode.ModeRead.{ModeRead}
+use Rattle.options.specs.declared.scalars.Scalars.{Scalars}
+use Rattle.options.specs.declared.setting.Kind.the-variants.{Seed, Count, Positive}
+use Rattle.options.specs.declared.setting.Setting.{Setting}
+use Rattle.options.specs.Modes.{modeOf}
+use Rattle.options.specs.Settings.{settingOf, refusalOf, wholeOf, earlier}
+
+unfoldable pub yesOf : List ℕ → Bool
+yesOf v = same v (bytes "1") || (same v (bytes "true") || (same v (bytes "yes") || same v (bytes "on")))
+
+abbrev pub yesAt : Value → Bool
+yesAt absent = false
+yesAt (given v) = yesOf v
+
+-- "`--verbose=V` is kept as a scalar; the bare flag wins"
+unfoldable pub verboseOf : List ℕ → Bool
+verboseOf s = flagIn (gathered s .items) || yesAt (lastValueOf (bytes "verbose") s)
+
+abbrev pub scalarsFrom : ModeRead → Setting → Setting → Setting → Bool → Scalars
+scalarsFrom mode seed duration cap verbose = record {
+  mode = mode .mode;
+  seed = wholeOf 1 seed;
+  «duration_ms» = wholeOf 0 duration;
+  «queue_cap» = wholeOf 100000 cap;
+  verbose = verbose;
+  refusal = earlier (mode .refusal) (earlier (refusalOf seed) (earlier (refusalOf duration) (refusalOf cap)));
+}
+
+unfoldable pub scalarsOf : List ℕ → Scalars
+scalarsOf s =
+    scalarsFrom
+    (modeOf (lastValueOf (bytes "mode") s))
+    (settingOf Seed (lastValueOf (bytes "seed") s))
+    (settingOf Count (lastValueOf (bytes "duration-ms") s))
+    (settingOf Positive (lastValueOf (bytes "queue-cap") s))
+    (verboseOf s)

@@ -1,0 +1,30 @@
+// The option text of config.rs: the settings that it gives, or the number of the refusal.
+mod config;
+mod delays;
+mod direction;
+mod entries;
+mod ge;
+mod kill;
+mod limits;
+mod losses;
+mod mode;
+mod outcome;
+mod parse;
+mod scalars;
+mod schedules;
+mod setting;
+mod window;
+
+pub use config::Config;
+pub use config::DirectionConfig;
+pub use config::MtuOption;
+pub use config::RateOption;
+pub use ge::Ge;
+pub use ge::GeOption;
+pub use kill::KillStyle;
+pub use kill::TcpKill;
+pub use mode::Mode;
+pub use outcome::Outcome;
+pub use outcome::Parsed;
+pub use parse::parse_config;
+pub use window::Window;

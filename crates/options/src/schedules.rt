@@ -1,0 +1,40 @@
+// The options of a direction that name times.
+ghost use mathlib.Core.Path.{_≡_};
+ghost use Rattle.options.specs.Directions.{schedulesOf};
+use crate::entries::List;
+use crate::entries::entries_at;
+use crate::entries::windows_of;
+use crate::kill::TcpKill;
+use crate::setting::Kind;
+use crate::setting::earlier_of;
+use crate::setting::refusal;
+use crate::setting::setting_at;
+use crate::setting::whole;
+use crate::window::Window;
+
+pub struct Schedules {
+    pub blackouts: [Window; 128],
+    pub blackout_count: usize,
+    pub nat_change_every_ms: u64,
+    pub tcp_kills: [TcpKill; 128],
+    pub tcp_kill_count: usize,
+    pub refusal: u32,
+}
+
+pub fn schedules_of(text: &[u8], prefix: &[u8]) -> Schedules
+    ensures { λ r. ⌜ r ≡ schedulesOf (now (text .entry)) (now (prefix .entry)) ⌝ }
+{
+    let blackout = entries_at(text, prefix, b"blackout", List::Blackouts);
+    let nat = setting_at(text, prefix, b"nat-change-every-ms", Kind::Positive);
+    let kill = entries_at(text, prefix, b"kill", List::Kills);
+    let holding = blackout.kills;
+    let tcp_kills = kill.kills;
+    Schedules {
+        blackouts: windows_of(holding),
+        blackout_count: blackout.count,
+        nat_change_every_ms: whole(nat, 0),
+        tcp_kills,
+        tcp_kill_count: kill.count,
+        refusal: earlier_of(blackout.refusal, earlier_of(refusal(nat), kill.refusal)),
+    }
+}

@@ -1,0 +1,40 @@
+-- "A decimal is an optional `+`, digits with at most one point, 1 to 15 digits with leading zeros counted. Its value is the digits as a whole number
+-- over a power of ten, one division."
+use mathlib.Core.Bool.{_&&_, cond}
+use mathlib.Core.List.{List, _++_}
+use Prim.Native.Nat.{ℕ}
+use lib.Dec.{leb, ltb}
+use lib.Ieee.{lt}
+use lib.ListN.{length}
+use Rattle.numbers.specs.Digits.{allDigits, wholeValue, decimalValue}
+use Rattle.numbers.specs.Refusals.{refusedDecimal, refusedProbability}
+use Rattle.numbers.specs.Whole.{whole}
+use Rattle.values.specs.declared.whole.Whole.{Whole}
+use Rattle.values.specs.declared.decimal.Decimal.{Decimal}
+use Rattle.values.specs.declared.decimal.Decimal.the-variants.{Number, Refused}
+use Rattle.values.specs.Bytes.{before, behind, point}
+use Rattle.values.specs.Whole.{withoutPlus}
+
+-- w stands before the point and f behind it
+unfoldable pub decimalOf : List ℕ → List ℕ → Decimal
+decimalOf w f =
+    cond (allDigits (w ++ f) && (ltb 0 (length (w ++ f)) && leb (length (w ++ f)) 15))
+    (Number (decimalValue (wholeValue (w ++ f)) (length f)))
+    (Refused refusedDecimal)
+
+-- a time in milliseconds is a decimal
+unfoldable pub parseF64MsOf : List ℕ → Decimal
+parseF64MsOf v = let d = withoutPlus v in decimalOf (before point d) (behind point d)
+
+-- a probability is a decimal that is not above 1
+unfoldable pub atMostOne : Decimal → Decimal
+atMostOne (Number x) = cond (lt (whole 1) x) (Refused refusedProbability) (Number x)
+atMostOne (Refused k) = Refused k
+
+abbrev pub parseProbOf : List ℕ → Decimal
+parseProbOf v = atMostOne (parseF64MsOf v)
+
+-- digits that were read, over 10 ^ k
+unfoldable pub overTen : Whole → ℕ → Decimal
+overTen (Whole.Number n) k = Number (decimalValue n k)
+overTen (Whole.Refused _) k = Refused refusedDecimal
