@@ -1,4 +1,4 @@
-// The parts of a line, as crates/vectors/src/print.rt prints them.
+// The parts of a line, as crates/output prints them.
 
 pub fn count(n: u64) -> String {
     format!(" {n}")

@@ -1,7 +1,6 @@
 // The benchmark's loop: fifty million packets are accounted, and a part of what was counted is printed, so that the work cannot be left out.
 use accounts::SendAccountant;
 use draws::Rng;
-use libc::STDOUT_FILENO;
 
 fn main() {
     let mut rng = Rng::new(1);
@@ -33,6 +32,6 @@ fn print(a: SendAccountant) {
 
 // The number in decimal on a line of its own.
 fn count(n: u64) {
-    io::print_decimal(STDOUT_FILENO, n);
-    io::write_all(STDOUT_FILENO, b"\n");
+    output::decimal(n);
+    output::end();
 }

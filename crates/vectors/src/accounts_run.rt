@@ -1,5 +1,4 @@
 // A long run of the accounts, as oracle/src/accounts.rs makes it of the Rust source.
-use crate::print;
 use crate::records;
 use accounts::DirectionStats;
 use accounts::SendAccountant;
@@ -24,9 +23,9 @@ pub fn long_run(seed: u64) {
     for _ in 0..100000u32 {
         run = step(run);
     }
-    print::text(b"accounts_run");
-    print::hex(seed);
-    print::hex(run.fold);
+    output::text(b"accounts_run");
+    output::hex(seed);
+    output::hex(run.fold);
     let merged = run.accountant.merge_into(run.stats);
     records::stats(merged.stats);
 }

@@ -1,17 +1,16 @@
 // Lines of document 01.
-use crate::print;
 use draws::Rng;
 
 // The generator of seed 1 after one draw: its state and output, and whether loss 0.25 and 0.3 drop.
 pub fn seed_one() {
     let drawn = Rng::new(1).next_u64();
-    print::text(b"seed 1");
-    print::hex(drawn.rng.state);
-    print::hex(drawn.value);
+    output::text(b"seed 1");
+    output::hex(drawn.rng.state);
+    output::hex(drawn.value);
     let draw = Rng::new(1).next_f64();
-    print::flag(draw.value < 25.0 / 100.0);
-    print::flag(draw.value < 3.0 / 10.0);
-    print::end();
+    output::flag(draw.value < 25.0 / 100.0);
+    output::flag(draw.value < 3.0 / 10.0);
+    output::end();
 }
 
 // Which floats are instants, by refusal 21.
@@ -43,15 +42,15 @@ pub fn buckets() {
 }
 
 fn instant(t: f64) {
-    print::text(b"instant");
-    print::float(t);
-    print::flag(numbers::is_instant(t));
-    print::end();
+    output::text(b"instant");
+    output::float(t);
+    output::flag(numbers::is_instant(t));
+    output::end();
 }
 
 fn bucket(latency_ms: f64) {
-    print::text(b"bucket");
-    print::float(latency_ms);
-    print::count(accounts::bucket_index(latency_ms) as u64);
-    print::end();
+    output::text(b"bucket");
+    output::float(latency_ms);
+    output::count(accounts::bucket_index(latency_ms) as u64);
+    output::end();
 }

@@ -6,7 +6,6 @@ mod latencies;
 mod oracle_accounts;
 mod oracle_draws;
 mod papers;
-mod print;
 mod records;
 mod refusals;
 mod samples;

@@ -2,7 +2,6 @@
 use crate::accounts_run;
 use crate::floats;
 use crate::latencies;
-use crate::print;
 use crate::records;
 use crate::samples;
 use accounts::DirectionStats;
@@ -115,9 +114,9 @@ pub fn long_runs() {
 fn send(a: SendAccountant, len: usize, latency_ms: f64) -> SendAccountant {
     let sent = a.on_send(len, latency_ms);
     let after = sent.accountant;
-    print::text(b"on_send");
-    print::count(len as u64);
-    print::float(latency_ms);
+    output::text(b"on_send");
+    output::count(len as u64);
+    output::float(latency_ms);
     records::accountant(after);
     after
 }
@@ -126,8 +125,8 @@ fn send(a: SendAccountant, len: usize, latency_ms: f64) -> SendAccountant {
 fn deliver(s: DirectionStats, latency_ms: f64) -> DirectionStats {
     let updated = s.record_delivered(latency_ms);
     let after = updated.stats;
-    print::text(b"record_delivered");
-    print::float(latency_ms);
+    output::text(b"record_delivered");
+    output::float(latency_ms);
     records::stats(after);
     after
 }
@@ -140,11 +139,11 @@ fn merge(s: DirectionStats, mut a: SendAccountant) {
     }
     a.latency = l;
     let merged = a.merge_into(s);
-    print::text(b"merge_into");
+    output::text(b"merge_into");
     records::stats(merged.stats);
 }
 
 fn total(s: DirectionStats) {
-    print::text(b"total_dropped");
+    output::text(b"total_dropped");
     records::total(s.total_dropped());
 }

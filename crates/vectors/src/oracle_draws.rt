@@ -1,6 +1,5 @@
 // The lines that oracle/src/draws.rs prints of the Rust source.
 use crate::floats;
-use crate::print;
 use draws::Rng;
 
 pub fn draws() {
@@ -20,19 +19,19 @@ pub fn draws() {
 
 // The first outputs and draws of a seed, its direction seeds, and a long run.
 fn of_seed(seed: u64) {
-    print::text(b"next_u64");
-    print::hex(seed);
+    output::text(b"next_u64");
+    output::hex(seed);
     outputs(outputs(Rng::new(seed)));
-    print::text(b"\nnext_f64");
-    print::hex(seed);
+    output::text(b"\nnext_f64");
+    output::hex(seed);
     fractions(fractions(Rng::new(seed)));
-    print::text(b"\ndirection_seed");
-    print::hex(seed);
+    output::text(b"\ndirection_seed");
+    output::hex(seed);
     direction_seeds(seed);
-    print::text(b"\nlong_run");
-    print::hex(seed);
-    print::hex(long_run(seed));
-    print::end();
+    output::text(b"\nlong_run");
+    output::hex(seed);
+    output::hex(long_run(seed));
+    output::end();
 }
 
 // Prints four outputs, and gives the next generator.
@@ -42,7 +41,7 @@ fn outputs(rng: Rng) -> Rng {
 
 fn output(rng: Rng) -> Rng {
     let drawn = rng.next_u64();
-    print::hex(drawn.value);
+    output::hex(drawn.value);
     drawn.rng
 }
 
@@ -53,17 +52,17 @@ fn fractions(rng: Rng) -> Rng {
 
 fn fraction(rng: Rng) -> Rng {
     let drawn = rng.next_f64();
-    print::float(drawn.value);
+    output::float(drawn.value);
     drawn.rng
 }
 
 fn direction_seeds(seed: u64) {
-    print::hex(draws::direction_seed(seed, 0));
-    print::hex(draws::direction_seed(seed, 1));
-    print::hex(draws::direction_seed(seed, 2));
-    print::hex(draws::direction_seed(seed, 0xFFFF_FFFF));
-    print::hex(draws::direction_seed(seed, 0x8000_0000_0000_0000));
-    print::hex(draws::direction_seed(seed, 0xFFFF_FFFF_FFFF_FFFF));
+    output::hex(draws::direction_seed(seed, 0));
+    output::hex(draws::direction_seed(seed, 1));
+    output::hex(draws::direction_seed(seed, 2));
+    output::hex(draws::direction_seed(seed, 0xFFFF_FFFF));
+    output::hex(draws::direction_seed(seed, 0x8000_0000_0000_0000));
+    output::hex(draws::direction_seed(seed, 0xFFFF_FFFF_FFFF_FFFF));
 }
 
 // A generator on its way through a long run, and the number that its draws were folded into.
@@ -109,10 +108,10 @@ fn extreme_pair(x: f64, y: f64) {
     if x == 0.0 && y == 0.0 {
         return;
     }
-    print::text(b"max_min");
-    print::float(x);
-    print::float(y);
-    print::float(numbers::maximum(x, y));
-    print::float(numbers::minimum(x, y));
-    print::end();
+    output::text(b"max_min");
+    output::float(x);
+    output::float(y);
+    output::float(numbers::maximum(x, y));
+    output::float(numbers::minimum(x, y));
+    output::end();
 }

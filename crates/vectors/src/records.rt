@@ -1,5 +1,4 @@
 // Records of the accounts as text: every counter in decimal, every float by its bits.
-use crate::print;
 use accounts::DirectionStats;
 use accounts::LatencyStats;
 use accounts::Outcome;
@@ -7,30 +6,30 @@ use accounts::SendAccountant;
 use accounts::TotalDropped;
 
 pub fn accountant(a: SendAccountant) {
-    print::count(a.sent_pkts);
-    print::count(a.sent_bytes);
-    print::count(a.dropped_overflow);
-    print::count(a.tcp_rst_kills);
-    print::count(a.nat_rebinds);
+    output::count(a.sent_pkts);
+    output::count(a.sent_bytes);
+    output::count(a.dropped_overflow);
+    output::count(a.tcp_rst_kills);
+    output::count(a.nat_rebinds);
     latency(a.latency);
-    print::end();
+    output::end();
 }
 
 pub fn stats(s: DirectionStats) {
-    print::count(s.received_pkts);
-    print::count(s.received_bytes);
-    print::count(s.sent_pkts);
-    print::count(s.sent_bytes);
-    print::count(s.dropped_random);
-    print::count(s.dropped_ge);
-    print::count(s.dropped_mtu);
-    print::count(s.dropped_blackout);
-    print::count(s.dropped_overflow);
-    print::count(s.duplicates);
-    print::count(s.reorder_hits);
-    print::count(s.rate_deferred);
-    print::count(s.nat_rebinds);
-    print::count(s.tcp_rst_kills);
+    output::count(s.received_pkts);
+    output::count(s.received_bytes);
+    output::count(s.sent_pkts);
+    output::count(s.sent_bytes);
+    output::count(s.dropped_random);
+    output::count(s.dropped_ge);
+    output::count(s.dropped_mtu);
+    output::count(s.dropped_blackout);
+    output::count(s.dropped_overflow);
+    output::count(s.duplicates);
+    output::count(s.reorder_hits);
+    output::count(s.rate_deferred);
+    output::count(s.nat_rebinds);
+    output::count(s.tcp_rst_kills);
     let hist = s.hist;
     latency(LatencyStats {
         count: s.latency_count,
@@ -39,36 +38,36 @@ pub fn stats(s: DirectionStats) {
         max_ms: s.latency_max_ms,
         hist,
     });
-    print::end();
+    output::end();
 }
 
 fn latency(l: LatencyStats) {
-    print::count(l.count);
-    print::float(l.sum_ms);
-    print::float(l.min_ms);
-    print::float(l.max_ms);
+    output::count(l.count);
+    output::float(l.sum_ms);
+    output::float(l.min_ms);
+    output::float(l.max_ms);
     let hist = l.hist;
     for i in 0..12 {
-        print::count(hist[i]);
+        output::count(hist[i]);
     }
 }
 
 pub fn total(t: TotalDropped) {
     match t {
-        TotalDropped::Dropped(n) => print::count(n),
+        TotalDropped::Dropped(n) => output::count(n),
         TotalDropped::Refused(n) => refused(n),
     }
-    print::end();
+    output::end();
 }
 
 pub fn outcome(o: Outcome) {
     match o {
-        Outcome::Done => print::text(b" done"),
+        Outcome::Done => output::text(b" done"),
         Outcome::Refused(n) => refused(n),
     }
 }
 
 fn refused(n: u32) {
-    print::text(b" refused");
-    print::count(n as u64);
+    output::text(b" refused");
+    output::count(n as u64);
 }

@@ -1,5 +1,4 @@
 // Calls of the accounts at the limits of refusals 22 and 25: the answer, and the record that comes back.
-use crate::print;
 use crate::records;
 use accounts::DirectionStats;
 use accounts::SendAccountant;
@@ -49,8 +48,8 @@ pub fn merges() {
 }
 
 fn send(name: &[u8], a: SendAccountant, len: usize) {
-    print::text(b"refusal on_send ");
-    print::text(name);
+    output::text(b"refusal on_send ");
+    output::text(name);
     let sent = a.on_send(len, 1.0);
     let answer = sent.answer;
     records::outcome(answer);
@@ -60,21 +59,21 @@ fn send(name: &[u8], a: SendAccountant, len: usize) {
 
 // What record_delivered and total_dropped answer.
 fn deliver(name: &[u8], s: DirectionStats) {
-    print::text(b"refusal record_delivered ");
-    print::text(name);
+    output::text(b"refusal record_delivered ");
+    output::text(name);
     let updated = s.record_delivered(1.0);
     let answer = updated.answer;
     records::outcome(answer);
     let after = updated.stats;
     records::stats(after);
-    print::text(b"refusal total_dropped ");
-    print::text(name);
+    output::text(b"refusal total_dropped ");
+    output::text(name);
     records::total(s.total_dropped());
 }
 
 fn merge(name: &[u8], a: SendAccountant, s: DirectionStats) {
-    print::text(b"refusal merge_into ");
-    print::text(name);
+    output::text(b"refusal merge_into ");
+    output::text(name);
     let merged = a.merge_into(s);
     let answer = merged.answer;
     records::outcome(answer);

@@ -1,8 +1,10 @@
-// Lines of text on standard output.
+// Text on standard output: written at once here, or collected first (`collected`).
+pub mod collected;
+
 use libc::STDOUT_FILENO;
 
-pub fn text(bytes: &[u8]) {
-    io::write_all(STDOUT_FILENO, bytes);
+pub fn text(word: &[u8]) {
+    io::write_all(STDOUT_FILENO, word);
 }
 
 pub fn end() {
@@ -27,18 +29,14 @@ pub fn hex(n: u64) {
 
 // A blank and the float's bit pattern, or the word nan.
 pub fn float(x: f64) {
-    if x != x {
-        text(b" nan");
-    } else {
-        hex(f64::to_bits(x));
-    }
+    let mut space = [0u8; 17];
+    let word: &mut [u8] = &mut space;
+    let blank = collected::text(word, 0, b" ");
+    let all = collected::float(word, blank, x);
+    collected::flush(word, all);
 }
 
 // A blank and 1 or 0.
 pub fn flag(b: bool) {
-    if b {
-        text(b" 1");
-    } else {
-        text(b" 0");
-    }
+    count(b as u64);
 }
