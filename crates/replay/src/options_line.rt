@@ -1,0 +1,31 @@
+// The line `options HEX`: the option text is read, and the settings or the refusal are printed.
+use crate::answers;
+use crate::hex;
+use crate::hex::Decoded;
+use crate::lines;
+use crate::lines::Beyond;
+use crate::parts;
+use crate::settings;
+use options::Outcome;
+
+// `rest` is what is kept of the line behind its first word, and `beyond` what follows.
+pub fn answer(out: &mut [u8], at: usize, rest: &[u8], beyond: Beyond, text: &mut [u8]) -> usize {
+    if rest.len() == 0 || !lines::is_paired(beyond) {
+        return answers::bad_line(out, at);
+    }
+    match hex::decode(&rest[1..], text) {
+        Decoded::Bytes(n) => parsed(out, at, parts::front(text, n)),
+        Decoded::Wrong => answers::bad_line(out, at),
+    }
+}
+
+// Reads the option text, and prints what comes of it.
+fn parsed(out: &mut [u8], at: usize, text: &[u8]) -> usize {
+    let p = options::parse_config(text);
+    let config = p.config;
+    let outcome = p.outcome;
+    match outcome {
+        Outcome::Taken => settings::taken(out, at, config),
+        Outcome::Refused(n) => answers::refused(out, at, n),
+    }
+}
