@@ -54,7 +54,7 @@ pub fn bounds(start: Whole, end: Whole) -> WindowRead
 
 impl Window {
     // START:END, each with blanks around it or none.
-    pub fn parse(v: &[u8]) -> WindowRead
+    pub(crate) fn parse(v: &[u8]) -> WindowRead
         ensures { λ r. ⌜ r ≡ parseWindowOf (now (v .entry)) ⌝ }
     {
         let p = up_to(v, b':');
