@@ -1,6 +1,7 @@
--- In order: Kinds (what a float is), NotNan (results that are numbers), Order, Extremes, Sign, Values (a value that fits is its own rounding), Whole
+-- In order: Both (two tests), Kinds (what a float is), NotNan (results that are numbers), Order, Extremes, Sign, Values (a value that fits is its own rounding), Whole
 -- (comparison of whole numbers), Bounded (times and rates), Products, Magnitude, Signed and Transitive (either sign), Sums, Credit and Elapsed (the
 -- bucket's bound), Digits, Limits (counters and lengths), Nearest (a rounding is the nearest value that fits), Decimals (a decimal's value).
+pub mod Both
 pub mod Kinds
 pub mod NotNan
 pub mod Order

@@ -2,22 +2,13 @@
 use mathlib.Core.Bool.{false}
 use lib.ListN.{replicate}
 use Rattle.numbers.specs.Whole.{whole}
+use Rattle.settings.specs.Windows.{noWindow, noKill}
 use Rattle.options.specs.declared.config.Config.{Config}
 use Rattle.options.specs.declared.config.DirectionConfig.{DirectionConfig}
 use Rattle.options.specs.declared.config.MtuOption.{MtuOption}
 use Rattle.options.specs.declared.config.RateOption.{RateOption}
-use Rattle.options.specs.declared.ge.GeOption.{GeOption}
-use Rattle.options.specs.declared.kill.KillStyle.the-variants.{Hold}
-use Rattle.options.specs.declared.kill.TcpKill.{TcpKill}
+use Rattle.settings.specs.declared.ge.GeOption.{GeOption}
 use Rattle.options.specs.declared.mode.Mode.the-variants.{Udp}
-use Rattle.options.specs.declared.window.Window.{Window}
-
--- what fills the lists
-abbrev pub noWindow : Window
-noWindow = record { «start_ms» = 0; «end_ms» = 0 }
-
-abbrev pub noKill : TcpKill
-noKill = record { window = noWindow; style = Hold }
 
 unfoldable pub defaultDirection : DirectionConfig
 defaultDirection = record {

@@ -12,20 +12,20 @@ use Rattle.options.specs.declared.config.MtuOption.{MtuOption}
 use Rattle.options.specs.declared.config.RateOption.{RateOption}
 use Rattle.options.specs.declared.delays.Delays.{Delays}
 use Rattle.options.specs.declared.direction.Directed.{Directed}
-use Rattle.options.specs.declared.entries.Entries.{Entries}
-use Rattle.options.specs.declared.entries.List.{List as Which}
-use Rattle.options.specs.declared.entries.List.the-variants.{Blackouts, Kills}
-use Rattle.options.specs.declared.ge.GeRead.{GeRead}
+use Rattle.settings.specs.declared.entries.Entries.{Entries}
+use Rattle.settings.specs.declared.entries.List.{List as Which}
+use Rattle.settings.specs.declared.entries.List.the-variants.{Blackouts, Kills}
+use Rattle.settings.specs.declared.ge.GeRead.{GeRead}
 use Rattle.options.specs.declared.limits.Limits.{Limits}
 use Rattle.options.specs.declared.losses.Losses.{Losses}
 use Rattle.options.specs.declared.schedules.Schedules.{Schedules}
-use Rattle.options.specs.declared.setting.Kind.{Kind}
-use Rattle.options.specs.declared.setting.Kind.the-variants.{Probability, Milliseconds, Count, Positive}
-use Rattle.options.specs.declared.setting.Setting.{Setting}
-use Rattle.options.specs.Bursts.{geOf}
+use Rattle.settings.specs.declared.setting.Kind.{Kind}
+use Rattle.settings.specs.declared.setting.Kind.the-variants.{Probability, Milliseconds, Count, Positive}
+use Rattle.settings.specs.declared.setting.Setting.{Setting}
+use Rattle.settings.specs.Bursts.{geOf}
 use Rattle.numbers.specs.Whole.{whole}
-use Rattle.options.specs.Lists.{windowOf, entriesOf}
-use Rattle.options.specs.Settings.{settingOf, refusalOf, floatOf, wholeOf, earlier}
+use Rattle.settings.specs.Lists.{windowOf, entriesOf}
+use Rattle.settings.specs.Settings.{settingOf, refusalOf, floatOf, wholeOf, earlier}
 
 -- a number of the text s under the key `prefix` then `name`, and a list
 abbrev pub numberAt : List ℕ → List ℕ → Kind → String → Setting

@@ -1,8 +1,3 @@
--- In order: Lists (a list made from another one entry by entry), Both (tests that both hold), and, towards refusal 29's judgement, Numbers, Bursts and
--- Entries (one option at a time) and Judgement (every answer passes).
-pub mod Lists
-pub mod Both
-pub mod Numbers
-pub mod Bursts
-pub mod Entries
+-- In order: Limits (rate, MTU and burst), Judgement (every answer passes refusal 29's judgement).
+pub mod Limits
 pub mod Judgement

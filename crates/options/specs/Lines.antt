@@ -13,16 +13,16 @@ use Rattle.values.specs.Decimal.{decimalOf, parseF64MsOf}
 use Rattle.values.specs.Whole.{digitsFrom, parseU64Of, atMost}
 use Rattle.options.specs.declared.outcome.Outcome.the-variants.{Taken}
 use Rattle.options.specs.declared.outcome.Parsed.{Parsed}
-use Rattle.options.specs.declared.window.WindowRead.{WindowRead}
-use Rattle.options.specs.Bursts.{geOf}
+use Rattle.settings.specs.declared.window.WindowRead.{WindowRead}
+use Rattle.settings.specs.Bursts.{geOf}
 use Rattle.options.specs.Config.{defaultDirection, defaultConfig}
 use Rattle.options.specs.Directions.{lossesOf, undelayedOf, delaysOf, rateOf, mtuOf, burstOf, limitsOf, schedulesOf, joinedOf, directionOf}
-use Rattle.options.specs.Lists.{noEntries, entriesOf}
+use Rattle.settings.specs.Lists.{noEntries, entriesOf}
 use Rattle.options.specs.Modes.{modeOf, otherModeOf}
 use Rattle.options.specs.Parse.{unclosedOf, textRefusalOf, refusedWith, settledOf, parseOf}
 use Rattle.options.specs.Scalars.{verboseOf, scalarsOf}
-use Rattle.options.specs.Settings.{ofDecimal, parseSettingOf, settingOf, refusalOf, floatOf, wholeOf, earlier}
-use Rattle.options.specs.Windows.{containsOf, boundsOf, parseWindowOf}
+use Rattle.settings.specs.Settings.{ofDecimal, parseSettingOf, settingOf, refusalOf, floatOf, wholeOf, earlier}
+use Rattle.settings.specs.Windows.{containsOf, boundsOf, parseWindowOf}
 
 -- the answer to a text with one delay
 abbrev pub delayed : String → Parsed

@@ -15,7 +15,7 @@ use Rattle.options.specs.Config.{defaultConfig}
 use Rattle.options.specs.Directions.{directionOf}
 use Rattle.options.specs.Modes.{otherModeOf}
 use Rattle.options.specs.Scalars.{scalarsOf}
-use Rattle.options.specs.Settings.{earlier}
+use Rattle.settings.specs.Settings.{earlier}
 
 abbrev pub anyHigh : List ℕ → Bool
 anyHigh [] = false

@@ -6,10 +6,10 @@ use Rattle.args.specs.Arguments.{Value, absent, given, gathered, flagIn, lastVa
 use Rattle.values.specs.Bytes.{bytes, same}
 use Rattle.options.specs.declared.mode.ModeRead.{ModeRead}
 use Rattle.options.specs.declared.scalars.Scalars.{Scalars}
-use Rattle.options.specs.declared.setting.Kind.the-variants.{Seed, Count, Positive}
-use Rattle.options.specs.declared.setting.Setting.{Setting}
+use Rattle.settings.specs.declared.setting.Kind.the-variants.{Seed, Count, Positive}
+use Rattle.settings.specs.declared.setting.Setting.{Setting}
 use Rattle.options.specs.Modes.{modeOf}
-use Rattle.options.specs.Settings.{settingOf, refusalOf, wholeOf, earlier}
+use Rattle.settings.specs.Settings.{settingOf, refusalOf, wholeOf, earlier}
 
 unfoldable pub yesOf : List ℕ → Bool
 yesOf v = same v (bytes "1") || (same v (bytes "true") || (same v (bytes "yes") || same v (bytes "on")))

@@ -1,12 +1,12 @@
 // The settings of the line and of its two directions.
 ghost use mathlib.Core.Path.{_≡_};
 ghost use Rattle.options.specs.Config.{defaultDirection, defaultConfig};
-use crate::ge::GeOption;
-use crate::kill::TcpKill;
-use crate::kill::no_kill;
 use crate::mode::Mode;
-use crate::window::Window;
-use crate::window::no_window;
+use settings::GeOption;
+use settings::TcpKill;
+use settings::Window;
+use settings::no_kill;
+use settings::no_window;
 
 // A rate in bits a second, where there is one.
 pub enum RateOption {

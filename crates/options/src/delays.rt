@@ -1,12 +1,12 @@
 // The options of a direction that delay packets.
 ghost use mathlib.Core.Path.{_≡_};
 ghost use Rattle.options.specs.Directions.{undelayedOf, delaysOf};
-use crate::setting::Kind;
-use crate::setting::earlier_of;
-use crate::setting::float;
-use crate::setting::refusal;
-use crate::setting::setting_at;
 use numbers::REFUSED_REORDER;
+use settings::Kind;
+use settings::earlier_of;
+use settings::float;
+use settings::refusal;
+use settings::setting_at;
 
 pub struct Delays {
     pub delay_ms: f64,

@@ -10,7 +10,7 @@ use crate::losses::Losses;
 use crate::losses::losses_of;
 use crate::schedules::Schedules;
 use crate::schedules::schedules_of;
-use crate::setting::earlier_of;
+use settings::earlier_of;
 
 // The settings of a direction, with 0 or the number of the first refusal.
 pub struct Directed {

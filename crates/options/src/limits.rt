@@ -3,13 +3,13 @@ ghost use mathlib.Core.Path.{_≡_};
 ghost use Rattle.options.specs.Directions.{rateOf, burstOf, mtuOf, limitsOf};
 use crate::config::MtuOption;
 use crate::config::RateOption;
-use crate::setting::Kind;
-use crate::setting::Setting;
-use crate::setting::earlier_of;
-use crate::setting::float;
-use crate::setting::refusal;
-use crate::setting::setting_at;
-use crate::setting::whole;
+use settings::Kind;
+use settings::Setting;
+use settings::earlier_of;
+use settings::float;
+use settings::refusal;
+use settings::setting_at;
+use settings::whole;
 
 pub struct Limits {
     pub duplicate_p: f64,

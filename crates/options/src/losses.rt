@@ -1,13 +1,13 @@
 // The options of a direction that lose packets.
 ghost use mathlib.Core.Path.{_≡_};
 ghost use Rattle.options.specs.Directions.{lossesOf};
-use crate::ge::GeOption;
-use crate::ge::ge_at;
-use crate::setting::Kind;
-use crate::setting::earlier_of;
-use crate::setting::float;
-use crate::setting::refusal;
-use crate::setting::setting_at;
+use settings::GeOption;
+use settings::Kind;
+use settings::earlier_of;
+use settings::float;
+use settings::ge_at;
+use settings::refusal;
+use settings::setting_at;
 
 pub struct Losses {
     pub loss: f64,

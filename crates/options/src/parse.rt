@@ -9,11 +9,11 @@ use crate::outcome::Outcome;
 use crate::outcome::Parsed;
 use crate::scalars::Scalars;
 use crate::scalars::scalars_of;
-use crate::setting::earlier_of;
 use args::fault_of;
 use numbers::REFUSED_BYTE;
 use numbers::REFUSED_TEXT_END;
 use numbers::REFUSED_TEXT_LENGTH;
+use settings::earlier_of;
 
 // The longest option text in bytes.
 const MOST_BYTES: usize = 16384;

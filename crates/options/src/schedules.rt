@@ -1,16 +1,16 @@
 // The options of a direction that name times.
 ghost use mathlib.Core.Path.{_≡_};
 ghost use Rattle.options.specs.Directions.{schedulesOf};
-use crate::entries::List;
-use crate::entries::entries_at;
-use crate::entries::windows_of;
-use crate::kill::TcpKill;
-use crate::setting::Kind;
-use crate::setting::earlier_of;
-use crate::setting::refusal;
-use crate::setting::setting_at;
-use crate::setting::whole;
-use crate::window::Window;
+use settings::Kind;
+use settings::List;
+use settings::TcpKill;
+use settings::Window;
+use settings::earlier_of;
+use settings::entries_at;
+use settings::refusal;
+use settings::setting_at;
+use settings::whole;
+use settings::windows_of;
 
 pub struct Schedules {
     pub blackouts: [Window; 128],

@@ -1,7 +1,10 @@
 -- The words that a line of a script begins with.
+use mathlib.Core.Bool.{cond}
+use mathlib.Core.List.{List}
 use Prim.Native.Nat.{ℕ}
-use mathlib.Core.List.{List, [], _∷_}
+use Rattle.values.specs.Bytes.{bytes, same}
+use Rattle.replay.specs.declared.words.Call.{Call}
+use Rattle.replay.specs.declared.words.Call.the-variants.{Options, Unknown}
 
--- the word "options"
-abbrev pub optionsWord : List ℕ
-optionsWord = 111 ∷ 112 ∷ 116 ∷ 105 ∷ 111 ∷ 110 ∷ 115 ∷ []
+unfoldable pub callOf : List ℕ → Call
+callOf word = cond (same word (bytes "options")) Options Unknown

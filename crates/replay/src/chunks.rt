@@ -2,7 +2,6 @@
 use crate::calls;
 use crate::lines;
 use crate::lines::Line;
-use crate::parts;
 use output::collected;
 
 // How many bytes of answers are collected, and the line that has begun.
@@ -61,6 +60,6 @@ fn answer_byte(
 // An answer line for a line.
 fn answer(out: &mut [u8], at: usize, line: Line, kept: &[u8], text: &mut [u8]) -> usize {
     let beyond = line.beyond;
-    let end = calls::answer(out, at, parts::front(kept, line.length), beyond, text);
+    let end = calls::answer(out, at, values::front(kept, line.length), beyond, text);
     collected::text(out, end, b"\n")
 }

@@ -7,7 +7,7 @@ mod input;
 mod lines;
 mod options_line;
 mod parts;
-mod settings;
+mod settings_text;
 mod words;
 
 // The buffers are lent from here. That for lines has an even length, as lines::Beyond asks; that for an option text is

@@ -4,8 +4,7 @@ use crate::hex;
 use crate::hex::Decoded;
 use crate::lines;
 use crate::lines::Beyond;
-use crate::parts;
-use crate::settings;
+use crate::settings_text;
 use options::Outcome;
 
 // `rest` is what is kept of the line behind its first word, and `beyond` what follows.
@@ -14,7 +13,7 @@ pub fn answer(out: &mut [u8], at: usize, rest: &[u8], beyond: Beyond, text: &mut
         return answers::bad_line(out, at);
     }
     match hex::decode(&rest[1..], text) {
-        Decoded::Bytes(n) => parsed(out, at, parts::front(text, n)),
+        Decoded::Bytes(n) => parsed(out, at, values::front(text, n)),
         Decoded::Wrong => answers::bad_line(out, at),
     }
 }
@@ -25,7 +24,7 @@ fn parsed(out: &mut [u8], at: usize, text: &[u8]) -> usize {
     let config = p.config;
     let outcome = p.outcome;
     match outcome {
-        Outcome::Taken => settings::taken(out, at, config),
+        Outcome::Taken => settings_text::taken(out, at, config),
         Outcome::Refused(n) => answers::refused(out, at, n),
     }
 }

@@ -1,6 +1,6 @@
 -- What a list of digits gives, for every number of digits.
-use mathlib.Core.Path.{_≡_, refl, sym}
-use mathlib.Core.Bool.{Bool, true, false, _&&_, true≢false}
+use mathlib.Core.Path.{_≡_, refl}
+use mathlib.Core.Bool.{true, _&&_, and-assoc}
 use mathlib.Core.List.{List, [], _∷_, _++_}
 use Prim.Native.Nat.{ℕ, _+_, _-_, _*_, _^_, _<_, _≤_}
 use native.Mathlib.Nat.{le-refl, lt-of-lt-of-le, mul-le-mul-right, pow-suc, pow-le-pow-right}
@@ -8,11 +8,8 @@ use native.Mathlib.Omega.{arith}
 use borrow.Author.Tests.{leb-true}
 use lib.Dec.{leb, lit<}
 use lib.ListN.{length}
+use Rattle.numbers.specs.Laws.Both.{both-true}
 use Rattle.numbers.specs.Digits.{isDigit, allDigits, wholeFrom, wholeValue}
-
-both-true : (a b : Bool) → (a && b) ≡ true → (a ≡ true) × (b ≡ true)
-both-true true b h = (refl, h)
-both-true false b h = absurd (true≢false (sym h))
 
 pub digit-range : (b : ℕ) → isDigit b ≡ true → (48 ≤ b) × (b ≤ 57)
 digit-range b h = let t = both-true (leb 48 b) (leb b 57) h in (leb-true 48 b (t .0), leb-true b 57 (t .1))
@@ -22,11 +19,7 @@ digits-cons b s h = both-true (isDigit b) (allDigits s) h
 
 pub digits-append : (s t : List ℕ) → allDigits (s ++ t) ≡ (allDigits s && allDigits t)
 digits-append [] t = refl
-digits-append (b ∷ s) t = rw (digits-append s t) (and-assoc (isDigit b) (allDigits s) (allDigits t))
-  where
-    and-assoc : (x y z : Bool) → (x && (y && z)) ≡ ((x && y) && z)
-    and-assoc true y z = refl
-    and-assoc false y z = refl
+digits-append (b ∷ s) t = rw (digits-append s t, and-assoc (isDigit b) (allDigits s) (allDigits t))
 
 -- two lists of digits are read one after the other
 pub whole-append : (s t : List ℕ) (n : ℕ) → wholeFrom n (s ++ t) ≡ wholeFrom (wholeFrom n s) t

@@ -7,19 +7,21 @@ use native.Mathlib.Omega.{arith}
 use lib.Dec.{eqb}
 use lib.Ieee.{le, ofInt}
 use Rattle.numbers.specs.Whole.{whole}
-use Rattle.options.specs.declared.entries.List.the-variants.{Blackouts, Kills}
+use Rattle.settings.specs.declared.entries.List.the-variants.{Blackouts, Kills}
 use Rattle.options.specs.Config.{defaultDirection, defaultConfig}
 use Rattle.options.specs.Directions.{lossesOf, delaysOf, limitsOf, schedulesOf, joinedOf, directionOf}
-use Rattle.options.specs.Judgement.{isBounded, isPositive, isSettingsOf}
+use Rattle.settings.specs.Judgement.{isBounded, isPositive}
+use Rattle.options.specs.Judgement.{isSettingsOf}
+use Rattle.options.specs.Laws.Limits.{rate-judged, mtu-judged, burst-for}
 use Rattle.options.specs.Parse.{parseOf, settledOf, refusedWith, textRefusalOf, firstRefusal, taken}
 use Rattle.options.specs.Scalars.{scalarsOf}
-use Rattle.options.specs.Laws.Both.{both}
+use Rattle.numbers.specs.Laws.Both.{both}
 use Rattle.options.specs.declared.config.Config.{Config}
 use Rattle.options.specs.declared.direction.Directed.{Directed}
 use Rattle.options.specs.declared.scalars.Scalars.{Scalars}
-use Rattle.options.specs.Laws.Bursts.{ge-judged}
-use Rattle.options.specs.Laws.Entries.{kills-judged, windows-judged}
-use Rattle.options.specs.Laws.Numbers.{probability-judged, time-judged, count-judged, positive-judged, cap-judged, rate-judged, mtu-judged, burst-for}
+use Rattle.settings.specs.Laws.Bursts.{ge-judged}
+use Rattle.settings.specs.Laws.Entries.{kills-judged, windows-judged}
+use Rattle.settings.specs.Laws.Numbers.{probability-judged, time-judged, count-judged, positive-judged, cap-judged}
 use Rattle.values.specs.Bytes.{bytes}
 
 pub direction-judged : (s prefix : List ℕ) → isSettingsOf (directionOf s prefix .config) ≡ true

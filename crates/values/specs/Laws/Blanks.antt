@@ -1,19 +1,15 @@
 -- A blank at the end is trimmed, and where the last byte is none nothing is.
-use mathlib.Core.Path.{_≡_, refl, ap, _∙_}
-use mathlib.Core.Bool.{Bool, true, false, _&&_, cond, and-true}
+use mathlib.Core.Path.{_≡_, refl, sym, ap, _∙_}
+use mathlib.Core.Bool.{Bool, true, false, _&&_, cond, and-true, and-assoc}
 use mathlib.Core.List.{List, [], _∷_, _++_}
 use Prim.Native.Nat.{ℕ}
 use lib.ListN.{length, take}
+use Rattle.numbers.specs.Laws.Both.{second-false}
 use Rattle.values.specs.Blanks.{isBlank, allBlank, trimEnd}
-use Rattle.values.specs.Laws.Scan.{and-no}
 
 all-append : (s : List ℕ) (b : ℕ) (t : Bool) → isBlank b ≡ t → allBlank (s ++ (b ∷ [])) ≡ (allBlank s && t)
 all-append [] b t h = rw h (and-true t)
-all-append (x ∷ s) b t h = ap (λ u. isBlank x && u) (all-append s b t h) ∙ assoc (isBlank x) (allBlank s) t
-  where
-    assoc : (x y z : Bool) → (x && (y && z)) ≡ ((x && y) && z)
-    assoc true y z = refl
-    assoc false y z = refl
+all-append (x ∷ s) b t h = ap (λ u. isBlank x && u) (all-append s b t h) ∙ sym (and-assoc (isBlank x) (allBlank s) t)
 
 -- what is left is the front of the list
 pub trim-front : (s : List ℕ) → take (length (trimEnd s)) s ≡ trimEnd s
@@ -30,4 +26,4 @@ trim-blank (x ∷ s) b h = rw (all-append s b true h, and-true (allBlank s), tri
 
 pub trim-other : (s : List ℕ) (b : ℕ) → isBlank b ≡ false → trimEnd (s ++ (b ∷ [])) ≡ s ++ (b ∷ [])
 trim-other [] b h = rw h
-trim-other (x ∷ s) b h = rw (all-append s b false h, and-no (allBlank s) false refl, and-no (isBlank x) false refl, trim-other s b h)
+trim-other (x ∷ s) b h = rw (all-append s b false h, second-false (allBlank s) false refl, second-false (isBlank x) false refl, trim-other s b h)

@@ -14,13 +14,13 @@ use Rattle.numbers.specs.Digits.{allDigits, wholeFrom, wholeValue, decimalValue
 use Rattle.numbers.specs.Laws.Digits.{digits-append, whole-append, whole-lt, whole-width}
 use Rattle.numbers.specs.Laws.Decimals.{decimal-rounded}
 use Rattle.numbers.specs.Refusals.{refusedWhole, refusedDecimal}
+use Rattle.numbers.specs.Laws.Both.{second-false}
 use Rattle.values.specs.declared.whole.Whole.{Whole}
 use Rattle.values.specs.declared.decimal.Decimal.{Decimal}
 use Rattle.values.specs.declared.decimal.Decimal.the-variants.{Number, Refused}
 use Rattle.values.specs.Whole.{digitsFrom, readOn}
 use Rattle.values.specs.Decimal.{decimalOf, overTen}
 use Rattle.values.specs.Laws.Digits.{digits-few}
-use Rattle.values.specs.Laws.Scan.{and-no}
 
 room : (w f : List ℕ) → length w + length f ≤ 15 → 10 ^ length w * 10 ^ length f ≤ 2 ^ 64
 room w f h = rw (← (pow-add 10 (length w) (length f))) (le-trans (pow-le-pow-right (lit< tt) h) (lit≤ tt))
@@ -51,7 +51,7 @@ module _ (w f : List ℕ) (some : 0 < length w + length f) (most : length w + le
   decimal-read = cases (allDigits w) refl (allDigits f) refl
 
 no : (a b : Bool) (x y : Decimal) → b ≡ false → cond (a && b) x y ≡ y
-no a b x y h = rw (and-no a b h)
+no a b x y h = rw (second-false a b h)
 
 pub decimal-none : (w f : List ℕ) → length w + length f ≡ 0 → decimalOf w f ≡ Refused refusedDecimal
 unfolding decimalOf
@@ -59,7 +59,7 @@ decimal-none w f h = no (allDigits (w ++ f)) _ _ _ (rw (length-append, h))
 
 pub decimal-long : (w f : List ℕ) → 15 < length w + length f → decimalOf w f ≡ Refused refusedDecimal
 unfolding decimalOf
-decimal-long w f h = no (allDigits (w ++ f)) _ _ _ (rw length-append (and-no (ltb 0 (length w + length f)) _ (lt-leb (length w + length f) 15 h)))
+decimal-long w f h = no (allDigits (w ++ f)) _ _ _ (rw length-append (second-false (ltb 0 (length w + length f)) _ (lt-leb (length w + length f) 15 h)))
 
 -- a decimal is refused by 10, or it is at most 15 digits over a power of ten of at most 15
 pub decimal-or : (P : Decimal → Type 0) → ((n k : ℕ) → n ≤ 999999999999999 → k ≤ 15 → P (Number (decimalValue n k))) → P (Refused refusedDecimal) → (w f : List ℕ) → P (decimalOf w f)

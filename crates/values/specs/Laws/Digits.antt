@@ -10,6 +10,7 @@ use lib.ListN.{length, getD, drop}
 use Rattle.numbers.specs.Digits.{isDigit, allDigits, wholeFrom}
 use Rattle.numbers.specs.Laws.Digits.{whole-grows, whole-from-lt}
 use Rattle.numbers.specs.Refusals.{refusedWhole, refusedWholeAbove, refusedZero}
+use Rattle.numbers.specs.Laws.Both.{second-false}
 use Rattle.values.specs.declared.whole.Whole.{Whole}
 use Rattle.values.specs.declared.whole.Whole.the-variants.{Number, Refused}
 use Rattle.values.specs.Bytes.{plus}
@@ -19,10 +20,6 @@ pub no-digit : (b n : ℕ) (s : List ℕ) → isDigit b ≡ false → digitsFrom
 unfolding digitsFrom
 no-digit b n s h = rw h
 
-both-no : (a b : Bool) (x y : Whole) → b ≡ false → cond (a && b) x y ≡ y
-both-no true b x y h = rw h
-both-no false b x y h = refl
-
 pub digit-more : (b n : ℕ) (s : List ℕ) → isDigit b ≡ true → digitsFrom n (b ∷ s) ≡ digitsFrom (n * 10 + (b - 48)) s
 unfolding digitsFrom
 digit-more b n s h = rw h
@@ -30,7 +27,8 @@ digit-more b n s h = rw h
 pub digit-over : (b n : ℕ) (s : List ℕ) → isDigit b ≡ true → 2 ^ 64 ≤ n * 10 + (b - 48) → digitsFrom n (b ∷ s) ≡ Refused refusedWhole
 unfolding digitsFrom
 digit-over b n s h k =
-    digit-more b n s h ∙ both-no (allDigits s) _ _ _ (le-ltb _ _ (le-trans k (whole-grows s (n * 10 + (b - 48)))))
+    let over = le-ltb (wholeFrom (n * 10 + (b - 48)) s) (2 ^ 64) (le-trans k (whole-grows s (n * 10 + (b - 48)))) in
+    digit-more b n s h ∙ rw (second-false (allDigits s) _ over)
 
 pub digits-end : (n : ℕ) → n < 2 ^ 64 → digitsFrom n [] ≡ Number n
 unfolding digitsFrom

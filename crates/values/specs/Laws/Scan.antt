@@ -1,6 +1,6 @@
 -- What a loop over a list asks for: one step, and the end.
 use mathlib.Core.Path.{_≡_, refl, ap}
-use mathlib.Core.Bool.{Bool, true, false, cond, _&&_}
+use mathlib.Core.Bool.{Bool, true, false, cond}
 use mathlib.Core.List.{List, [], _∷_}
 use Prim.Native.Nat.{ℕ, suc, _+_, _<_, _≤_}
 use native.Mathlib.Numerals.{add-one}
@@ -8,6 +8,7 @@ use native.Mathlib.Omega.{arith}
 use lib.Dec.{eqb}
 use lib.ListN.{length, getD, drop, drop-of-length-le}
 use lib.Seq.{drop-cons}
+use Rattle.numbers.specs.Laws.Both.{second-false}
 use Rattle.values.specs.Bytes.{upTo, same}
 
 pub step : (l : List ℕ) (i : ℕ) → i < length l → drop i l ≡ getD l i 0 ∷ drop (i + 1) l
@@ -24,12 +25,8 @@ pub up-to-le : (b : ℕ) (s : List ℕ) → upTo b s ≤ length s
 up-to-le b [] = omega arith
 up-to-le b (x ∷ s) = cond-le (eqb x b) (upTo b s) (length s) (up-to-le b s)
 
-pub and-no : (x y : Bool) → y ≡ false → (x && y) ≡ false
-and-no true y h = h
-and-no false y h = refl
-
 pub same-length : (a b : List ℕ) → (length a ≡ length b → ⊥) → same a b ≡ false
 same-length [] [] h = absurd (h refl)
 same-length [] (y ∷ t) h = refl
 same-length (x ∷ s) [] h = refl
-same-length (x ∷ s) (y ∷ t) h = and-no (eqb x y) (same s t) (same-length s t (λ e. h (ap suc e)))
+same-length (x ∷ s) (y ∷ t) h = second-false (eqb x y) (same s t) (same-length s t (λ e. h (ap suc e)))

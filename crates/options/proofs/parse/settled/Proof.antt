@@ -6,7 +6,7 @@ use Rattle.options.specs.declared.direction.Directed.{Directed}
 use Rattle.options.specs.declared.scalars.Scalars.{Scalars}
 use Rattle.options.specs.Modes.{otherModeOf}
 use Rattle.options.specs.Parse.{settledOf, firstRefusal}
-use Rattle.options.specs.Settings.{earlier}
+use Rattle.settings.specs.Settings.{earlier}
 use borrow.Author.Needs.{needs}
 use Rattle.options.proofs.parse.settled.Statement.{statement}
 use Rattle.options.proofs.parse.settled.Tie as tie

@@ -1,0 +1,47 @@
+-- Blackouts and kills: "at most 128 blackouts and 128 kills a direction", "The 129th window is read before 19 is given."
+use mathlib.Core.Bool.{cond}
+use mathlib.Core.List.{List, [], _∷_}
+use Prim.Native.Nat.{ℕ, _+_}
+use lib.Dec.{ltb, eqb}
+use lib.ListN.{set, replicate}
+use Rattle.numbers.specs.Refusals.{refusedEntries}
+use Rattle.settings.specs.declared.entries.Entries.{Entries}
+use Rattle.settings.specs.declared.entries.List.{List as Which}
+use Rattle.settings.specs.declared.entries.List.the-variants.{Blackouts, Kills}
+use Rattle.settings.specs.declared.kill.KillRead.{KillRead}
+use Rattle.settings.specs.declared.kill.KillStyle.the-variants.{Hold}
+use Rattle.settings.specs.declared.kill.TcpKill.{TcpKill}
+use Rattle.settings.specs.declared.window.Window.{Window}
+use Rattle.settings.specs.declared.window.WindowRead.{WindowRead}
+use Rattle.settings.specs.Windows.{noKill, parseWindowOf, parseKillOf}
+
+-- a blackout is a window, kept as one that holds
+unfoldable pub heldOf : WindowRead → KillRead
+heldOf (WindowRead.Refused k) = KillRead.Refused k
+heldOf (WindowRead.Taken w) = KillRead.Taken (record { window = w; style = Hold })
+
+abbrev pub windowOf : TcpKill → Window
+windowOf k = k .window
+
+unfoldable pub parseEntryOf : Which → List ℕ → KillRead
+parseEntryOf Blackouts v = heldOf (parseWindowOf v)
+parseEntryOf Kills v = parseKillOf v
+
+-- nothing gathered, with 0 or a refusal
+unfoldable pub noEntries : ℕ → Entries
+noEntries k = record { kills = replicate 128 noKill; count = 0; refusal = k }
+
+abbrev pub entered : Entries → KillRead → Entries
+entered e (KillRead.Refused k) = noEntries k
+entered e (KillRead.Taken w) = cond (ltb (e .count) 128) (record { kills = set (e .kills) (e .count) w; count = e .count + 1; refusal = 0 }) (noEntries refusedEntries)
+
+-- one entry more; the first refusal stays
+unfoldable pub withEntry : Entries → KillRead → Entries
+withEntry e r = cond (eqb (e .refusal) 0) (entered e r) e
+
+abbrev pub entriesFrom : Which → Entries → List (List ℕ) → Entries
+entriesFrom which e [] = e
+entriesFrom which e (v ∷ vs) = entriesFrom which (withEntry e (parseEntryOf which v)) vs
+
+unfoldable pub entriesOf : Which → List (List ℕ) → Entries
+entriesOf which vs = entriesFrom which (noEntries 0) vs
