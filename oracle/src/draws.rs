@@ -1,10 +1,12 @@
 // Prints the generator's draws, direction seeds, maxima and minima, as the program crates/vectors does in crates/vectors/src/oracle_draws.rt.
 mod config;
+mod floats;
 mod impair;
 mod print;
 mod rng;
 mod stats;
 
+use floats::FLOATS;
 use impair::direction_seed;
 use print::{float, hex};
 use rng::Rng;
@@ -25,25 +27,6 @@ const SEEDS: [u64; 12] = [
 ];
 
 const SALTS: [u64; 6] = [0, 1, 2, 0xFFFF_FFFF, 0x8000_0000_0000_0000, 0xFFFF_FFFF_FFFF_FFFF];
-
-const FLOATS: [f64; 16] = [
-    0.0,
-    -0.0,
-    5e-324,
-    -5e-324,
-    0.1,
-    -0.1,
-    1.0,
-    -1.0,
-    9007199254740991.0,
-    9007199254740992.0,
-    9007199254740994.0,
-    f64::MAX,
-    f64::MIN,
-    f64::INFINITY,
-    f64::NEG_INFINITY,
-    f64::NAN,
-];
 
 fn line(name: &str, seed: u64, rest: impl Iterator<Item = String>) {
     println!("{name}{}{}", hex(seed), rest.collect::<String>());

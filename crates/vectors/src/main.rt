@@ -5,6 +5,7 @@ mod floats;
 mod latencies;
 mod oracle_accounts;
 mod oracle_draws;
+mod oracle_windows;
 mod papers;
 mod records;
 mod refusals;
@@ -27,4 +28,5 @@ fn main() {
     oracle_accounts::full_records();
     oracle_accounts::totals();
     oracle_accounts::long_runs();
+    oracle_windows::windows();
 }

@@ -1,8 +1,8 @@
 -- The loop ends after fifty million packets.
 use borrow.Author.Needs.{needs}
 use Prim.Native.Nat.{_≤_, _-_}
-use Rattle.bench.proofs.main.Statement.{statement}
-use Rattle.bench.proofs.main.Tie as tie
+use Rattle.bench.proofs.sends.run.Statement.{statement}
+use Rattle.bench.proofs.sends.run.Tie as tie
 
 abbrev Inv-loop : tie.InvT-loop
 Inv-loop rng₀ accountant₀ counter₀ rng accountant counter = counter ≤ 50000000
@@ -37,14 +37,14 @@ loop-less c = search needs
 loop-again : tie.Need-loop-again Inv-loop μ-loop
 loop-again c = search needs
 
-print-requires : tie.Need-print-requires Inv-loop μ-loop
-print-requires c κs = search needs
+told-requires : tie.Need-told-requires Inv-loop μ-loop
+told-requires c κs = search needs
 
 returns : tie.Need-returns Inv-loop μ-loop
 returns c = search needs
 
-pub main-spec : {M : Type 1} → statement M
-main-spec =
+pub run-spec : {M : Type 1} → statement M
+run-spec =
     tie.close
     (tie.spec
     Inv-loop
@@ -58,5 +58,5 @@ main-spec =
     add-counter
     loop-less
     loop-again
-    print-requires
+    told-requires
     returns)
