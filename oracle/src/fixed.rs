@@ -319,6 +319,9 @@ const BAD_LINES: [&str; 17] = [
     "options\t00", "options 0", "options 2D00", "options 0g", "options 0x00", "options \u{b5}", "options 00\r",
 ];
 
+// What lines of some 66,000 bytes end in: whole pairs of digits, half a pair, and no digits.
+const LONG_ENDS: [&str; 4] = ["", "0", "g", "0g"];
+
 pub fn script(out: &mut impl Write) -> io::Result<()> {
     let by_hand = [&LINES[..], &DIFFERENCES, &NUMBERS, &FORMS, &PARTS, &WORDS, &MODES, &FAULTS];
     let by_hand = by_hand.concat().into_iter().map(str::to_string);
@@ -328,6 +331,9 @@ pub fn script(out: &mut impl Write) -> io::Result<()> {
     }
     for line in BAD_LINES {
         writeln!(out, "{line}")?;
+    }
+    for end in LONG_ENDS {
+        writeln!(out, "options {}{end}", "2d".repeat(33_000))?;
     }
     writeln!(out, "{}", line_of(b""))
 }

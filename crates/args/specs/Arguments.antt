@@ -24,7 +24,7 @@ dashes (x ∷ y ∷ s) = cond (eqb x dash && eqb y dash) (suc (suc (dashes s))) 
 abbrev pub stripped : List ℕ → List ℕ
 stripped k = drop (dashes k) k
 
--- refusal 4 comes where an argument does not start so
+-- whether an argument starts with `--`; refusal 4 if not
 abbrev pub dashed : List ℕ → Bool
 dashed a = same (take 2 a) (bytes "--")
 
@@ -40,13 +40,13 @@ pub data Item : Type 0 where
 -- what was gathered, and 0 or the refusal that ended it
 pub record Gathered : Type 0 where
   pub items : List Item
-  pub fault : ℕ
+  pub refusal : ℕ
 
 abbrev pub stop : ℕ → Gathered
-stop n = record { items = []; fault = n }
+stop n = record { items = []; refusal = n }
 
 abbrev pub also : Item → Gathered → Gathered
-also i g = record { items = i ∷ g .items; fault = g .fault }
+also i g = record { items = i ∷ g .items; refusal = g .refusal }
 
 -- a key that waits for the next argument as its value
 pub data Waiting : Type 0 where

@@ -1,7 +1,9 @@
 // A cursor over the arguments of a text, each closed by a zero byte.
 ghost use mathlib.Core.Path.{_≡_};
 ghost use mathlib.Core.List.{_++_};
-ghost use Rattle.args.specs.Places.{nextOf, hitOf};
+ghost use Prim.Native.Nat.{_+_, _≤_};
+ghost use lib.ListN.{length};
+ghost use Rattle.args.specs.Places.{nextOf, keyedOf, valuedOf, hitOf};
 use crate::dashes::dashes_of;
 use numbers::REFUSED_ARGUMENT;
 use numbers::REFUSED_VALUE_LACKING;
@@ -48,7 +50,7 @@ impl Cursor {
     }
 
     // The argument at the cursor, and the cursor behind it.
-    pub fn next(mut self, text: &[u8]) -> Step
+    pub fn next(self, text: &[u8]) -> Step
         ensures { λ r. ⌜ r ≡ nextOf (now (text .entry)) (self .at) ⌝ }
     {
         let at = self.at;
@@ -60,13 +62,22 @@ impl Cursor {
                 arg: Arg::End,
             };
         }
-        let a = front(rest, n);
-        if !is_same(front(a, 2), b"--") {
+        if !is_same(front(front(rest, n), 2), b"--") {
             return Step {
                 cursor: self,
                 arg: Arg::Refused(REFUSED_ARGUMENT),
             };
         }
+        self.keyed(text, n)
+    }
+
+    // The argument of n bytes at the cursor, which starts with dashes: its key, and its value where it has one.
+    fn keyed(mut self, text: &[u8], n: usize) -> Step
+        requires { ⌜ self .at + (n + 1) ≤ length (now text) ⌝ }
+        ensures { λ r. ⌜ r ≡ keyedOf (now (text .entry)) (self .at) n ⌝ }
+    {
+        let at = self.at;
+        let a = part(text, at, n);
         let q = up_to(a, b'=');
         let k = front(a, q);
         let d = dashes_of(k);
@@ -86,6 +97,14 @@ impl Cursor {
                 arg: Arg::Flag,
             };
         }
+        self.valued(text, at + d, key.len(), m)
+    }
+
+    // The key at this place and of this length, with the argument at m for its value.
+    fn valued(mut self, text: &[u8], key: usize, len: usize, m: usize) -> Step
+        requires { ⌜ m ≤ length (now text) ⌝ }
+        ensures { λ r. ⌜ r ≡ valuedOf (now (text .entry)) (self .at) key len m ⌝ }
+    {
         let more = after(text, m);
         let l = up_to(more, 0);
         if more.len() <= l {
@@ -97,7 +116,7 @@ impl Cursor {
         self.at = m + (l + 1);
         Step {
             cursor: self,
-            arg: Arg::Pair(at + d, key.len(), m, l),
+            arg: Arg::Pair(key, len, m, l),
         }
     }
 
@@ -111,18 +130,8 @@ impl Cursor {
             self = cursor;
             let arg = step.arg;
             match arg {
-                Arg::End => {
-                    return Hit {
-                        cursor: self,
-                        found: Found::Nothing,
-                    };
-                }
-                Arg::Refused(_) => {
-                    return Hit {
-                        cursor: self,
-                        found: Found::Nothing,
-                    };
-                }
+                Arg::End => break 'args,
+                Arg::Refused(_) => break 'args,
                 Arg::Flag => continue 'args,
                 Arg::Pair(k, n, v, l) => {
                     let key = part(text, k, n);
@@ -133,12 +142,10 @@ impl Cursor {
                     if tail.len() != name.len() {
                         continue 'args;
                     }
-                    let mut j: usize = 0;
-                    while j < name.len() {
+                    for j in 0..name.len() {
                         if tail[j] != name[j] {
                             continue 'args;
                         }
-                        j += 1;
                     }
                     return Hit {
                         cursor: self,
@@ -146,6 +153,10 @@ impl Cursor {
                     };
                 }
             }
+        }
+        Hit {
+            cursor: self,
+            found: Found::Nothing,
         }
     }
 }

@@ -8,6 +8,6 @@ pub use cursor::Cursor;
 pub use cursor::Found;
 pub use cursor::Hit;
 pub use cursor::Step;
-pub use scans::fault_of;
 pub use scans::has_flag;
 pub use scans::last_of;
+pub use scans::refusal_of;

@@ -8,8 +8,8 @@ use crate::cursor::Cursor;
 use crate::cursor::Found;
 
 // 0, or the refusal of the argument list.
-pub fn fault_of(text: &[u8]) -> u32
-    ensures { λ r. ⌜ r ≡ gathered (now (text .entry)) .fault ⌝ }
+pub fn refusal_of(text: &[u8]) -> u32
+    ensures { λ r. ⌜ r ≡ gathered (now (text .entry)) .refusal ⌝ }
 {
     let mut cursor = Cursor::new();
     loop {

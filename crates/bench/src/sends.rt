@@ -13,10 +13,10 @@ pub fn run() {
         let sent = accountant.on_send((drawn.value % 2048) as usize, latency_ms);
         accountant = sent.accountant;
     }
-    told(accountant);
+    print_counts(accountant);
 }
 
-fn told(a: SendAccountant) {
+fn print_counts(a: SendAccountant) {
     print::count(a.sent_pkts);
     print::count(a.sent_bytes);
     let l = a.latency;

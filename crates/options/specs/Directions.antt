@@ -13,8 +13,8 @@ use Rattle.options.specs.declared.config.RateOption.{RateOption}
 use Rattle.options.specs.declared.delays.Delays.{Delays}
 use Rattle.options.specs.declared.direction.Directed.{Directed}
 use Rattle.settings.specs.declared.entries.Entries.{Entries}
-use Rattle.settings.specs.declared.entries.List.{List as Which}
-use Rattle.settings.specs.declared.entries.List.the-variants.{Blackouts, Kills}
+use Rattle.settings.specs.declared.entries.EntryKind.{EntryKind}
+use Rattle.settings.specs.declared.entries.EntryKind.the-variants.{Blackout, Kill}
 use Rattle.settings.specs.declared.ge.GeRead.{GeRead}
 use Rattle.options.specs.declared.limits.Limits.{Limits}
 use Rattle.options.specs.declared.losses.Losses.{Losses}
@@ -31,8 +31,8 @@ use Rattle.settings.specs.Settings.{settingOf, refusalOf, floatOf, wholeOf, ear
 abbrev pub numberAt : List ℕ → List ℕ → Kind → String → Setting
 numberAt s prefix kind name = settingOf kind (lastValueOf (prefix ++ bytes name) s)
 
-abbrev pub listAt : List ℕ → List ℕ → Which → String → Entries
-listAt s prefix which name = entriesOf which (valuesOf (prefix ++ bytes name) s)
+abbrev pub listAt : List ℕ → List ℕ → EntryKind → String → Entries
+listAt s prefix kind name = entriesOf kind (valuesOf (prefix ++ bytes name) s)
 
 -- loss and burst loss
 abbrev pub lossesFrom : Setting → GeRead → Losses
@@ -114,7 +114,7 @@ schedulesFrom blackout nat kill = record {
 
 unfoldable pub schedulesOf : List ℕ → List ℕ → Schedules
 schedulesOf s prefix =
-    schedulesFrom (listAt s prefix Blackouts "blackout") (numberAt s prefix Positive "nat-change-every-ms") (listAt s prefix Kills "kill")
+    schedulesFrom (listAt s prefix Blackout "blackout") (numberAt s prefix Positive "nat-change-every-ms") (listAt s prefix Kill "kill")
 
 unfoldable pub joinedOf : Losses → Delays → Limits → Schedules → Directed
 joinedOf a b c d = record {

@@ -2,7 +2,8 @@
 -- 999999999999999, a whole number but the seed above 2^53, rate or MTU present as 0, end ≤ start, or over 128 entries; of a window list only the counted
 -- entries are judged".
 use mathlib.Core.Bool.{Bool, true, _&&_}
-use Rattle.settings.specs.Judgement.{isProbability, isTime, isBounded, isPositive, isGe, isWindow, isKill, isList}
+use Rattle.values.specs.Whole.{isBounded}
+use Rattle.settings.specs.Judgement.{isProbability, isTime, isPositive, isGe, isWindow, isKill, isList}
 use Rattle.options.specs.declared.config.DirectionConfig.{DirectionConfig}
 use Rattle.options.specs.declared.config.MtuOption.{MtuOption}
 use Rattle.options.specs.declared.config.RateOption.{RateOption}

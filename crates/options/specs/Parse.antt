@@ -29,7 +29,7 @@ unfoldable pub textRefusalOf : List ℕ → ℕ
 textRefusalOf s =
     cond (ltb 16384 (length s)) refusedTextLength
     (cond (unclosedOf s) refusedTextEnd
-    (cond (anyHigh s) refusedByte (gathered s .fault)))
+    (cond (anyHigh s) refusedByte (gathered s .refusal)))
 
 -- "the number, with `Config::default`"
 unfoldable pub refusedWith : ℕ → Parsed

@@ -8,6 +8,7 @@ use Rattle.options.specs.declared.mode.ModeRead.{ModeRead}
 use Rattle.options.specs.declared.scalars.Scalars.{Scalars}
 use Rattle.settings.specs.declared.setting.Kind.the-variants.{Seed, Count, Positive}
 use Rattle.settings.specs.declared.setting.Setting.{Setting}
+use Rattle.options.specs.Config.{defaultConfig}
 use Rattle.options.specs.Modes.{modeOf}
 use Rattle.settings.specs.Settings.{settingOf, refusalOf, wholeOf, earlier}
 
@@ -25,9 +26,9 @@ verboseOf s = flagIn (gathered s .items) || yesAt (lastValueOf (bytes "verbose")
 abbrev pub scalarsFrom : ModeRead → Setting → Setting → Setting → Bool → Scalars
 scalarsFrom mode seed duration cap verbose = record {
   mode = mode .mode;
-  seed = wholeOf 1 seed;
-  «duration_ms» = wholeOf 0 duration;
-  «queue_cap» = wholeOf 100000 cap;
+  seed = wholeOf (defaultConfig .seed) seed;
+  «duration_ms» = wholeOf (defaultConfig .«duration_ms») duration;
+  «queue_cap» = wholeOf (defaultConfig .«queue_cap») cap;
   verbose = verbose;
   refusal = earlier (mode .refusal) (earlier (refusalOf seed) (earlier (refusalOf duration) (refusalOf cap)));
 }

@@ -66,6 +66,12 @@ impl DirectionConfig {
     }
 }
 
+// The seed where the text names none.
+pub const DEFAULT_SEED: u64 = 1;
+
+// The queue's capacity that is told to the host where the text names none.
+pub const DEFAULT_QUEUE_CAP: u64 = 100000;
+
 // The settings of an option text.
 pub struct Config {
     pub mode: Mode,
@@ -86,10 +92,10 @@ impl Config {
         let s2c = DirectionConfig::default();
         Config {
             mode: Mode::Udp,
-            seed: 1,
+            seed: DEFAULT_SEED,
             duration_ms: 0,
             verbose: false,
-            queue_cap: 100000,
+            queue_cap: DEFAULT_QUEUE_CAP as usize,
             c2s,
             s2c,
         }

@@ -9,7 +9,7 @@ use crate::outcome::Outcome;
 use crate::outcome::Parsed;
 use crate::scalars::Scalars;
 use crate::scalars::scalars_of;
-use args::fault_of;
+use args::refusal_of;
 use numbers::REFUSED_BYTE;
 use numbers::REFUSED_TEXT_END;
 use numbers::REFUSED_TEXT_LENGTH;
@@ -52,7 +52,7 @@ fn text_refusal(text: &[u8]) -> u32
     if any_high(text) {
         return REFUSED_BYTE;
     }
-    fault_of(text)
+    refusal_of(text)
 }
 
 fn refused_with(refusal: u32) -> Parsed

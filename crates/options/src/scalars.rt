@@ -1,6 +1,8 @@
 // The options that stand for the whole line.
 ghost use mathlib.Core.Path.{_≡_};
 ghost use Rattle.options.specs.Scalars.{yesOf, verboseOf, scalarsOf};
+use crate::config::DEFAULT_QUEUE_CAP;
+use crate::config::DEFAULT_SEED;
 use crate::limits::size;
 use crate::mode::Mode;
 use crate::mode::mode_at;
@@ -66,9 +68,9 @@ pub fn scalars_of(text: &[u8]) -> Scalars
     let last = earlier_of(refusal(duration), refusal(cap));
     Scalars {
         mode,
-        seed: whole(seed, 1),
+        seed: whole(seed, DEFAULT_SEED),
         duration_ms: whole(duration, 0),
-        queue_cap: size(whole(cap, 100000)),
+        queue_cap: size(whole(cap, DEFAULT_QUEUE_CAP)),
         verbose,
         refusal: earlier_of(read.refusal, earlier_of(refusal(seed), last)),
     }

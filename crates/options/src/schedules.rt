@@ -1,8 +1,8 @@
 // The options of a direction that name times.
 ghost use mathlib.Core.Path.{_≡_};
 ghost use Rattle.options.specs.Directions.{schedulesOf};
+use settings::EntryKind;
 use settings::Kind;
-use settings::List;
 use settings::TcpKill;
 use settings::Window;
 use settings::earlier_of;
@@ -24,9 +24,9 @@ pub struct Schedules {
 pub fn schedules_of(text: &[u8], prefix: &[u8]) -> Schedules
     ensures { λ r. ⌜ r ≡ schedulesOf (now (text .entry)) (now (prefix .entry)) ⌝ }
 {
-    let blackout = entries_at(text, prefix, b"blackout", List::Blackouts);
+    let blackout = entries_at(text, prefix, b"blackout", EntryKind::Blackout);
     let nat = setting_at(text, prefix, b"nat-change-every-ms", Kind::Positive);
-    let kill = entries_at(text, prefix, b"kill", List::Kills);
+    let kill = entries_at(text, prefix, b"kill", EntryKind::Kill);
     let holding = blackout.kills;
     let tcp_kills = kill.kills;
     Schedules {

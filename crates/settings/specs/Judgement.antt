@@ -1,11 +1,12 @@
 -- What refusal 29 asks of one setting of a direction.
 use mathlib.Core.Bool.{Bool, true, _&&_, not}
 use mathlib.Core.List.{List, [], _∷_}
-use Prim.Native.Nat.{ℕ, _^_}
+use Prim.Native.Nat.{ℕ}
 use lib.Dec.{leb, ltb, eqb}
 use lib.Ieee.{Float, le}
 use lib.ListN.{take}
 use Rattle.numbers.specs.Whole.{whole}
+use Rattle.values.specs.Whole.{isBounded}
 use Rattle.settings.specs.declared.ge.GeOption.{GeOption}
 use Rattle.settings.specs.declared.kill.TcpKill.{TcpKill}
 use Rattle.settings.specs.declared.window.Window.{Window}
@@ -19,9 +20,6 @@ isProbability x = isWithin (whole 1) x
 
 abbrev pub isTime : Float → Bool
 isTime x = isWithin (whole 999999999999999) x
-
-abbrev pub isBounded : ℕ → Bool
-isBounded n = leb n (2 ^ 53)
 
 abbrev pub isPositive : ℕ → Bool
 isPositive n = not (eqb n 0) && isBounded n

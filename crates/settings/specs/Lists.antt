@@ -6,8 +6,8 @@ use lib.Dec.{ltb, eqb}
 use lib.ListN.{set, replicate}
 use Rattle.numbers.specs.Refusals.{refusedEntries}
 use Rattle.settings.specs.declared.entries.Entries.{Entries}
-use Rattle.settings.specs.declared.entries.List.{List as Which}
-use Rattle.settings.specs.declared.entries.List.the-variants.{Blackouts, Kills}
+use Rattle.settings.specs.declared.entries.EntryKind.{EntryKind}
+use Rattle.settings.specs.declared.entries.EntryKind.the-variants.{Blackout, Kill}
 use Rattle.settings.specs.declared.kill.KillRead.{KillRead}
 use Rattle.settings.specs.declared.kill.KillStyle.the-variants.{Hold}
 use Rattle.settings.specs.declared.kill.TcpKill.{TcpKill}
@@ -23,9 +23,9 @@ heldOf (WindowRead.Taken w) = KillRead.Taken (record { window = w; style = Hold 
 abbrev pub windowOf : TcpKill → Window
 windowOf k = k .window
 
-unfoldable pub parseEntryOf : Which → List ℕ → KillRead
-parseEntryOf Blackouts v = heldOf (parseWindowOf v)
-parseEntryOf Kills v = parseKillOf v
+unfoldable pub parseEntryOf : EntryKind → List ℕ → KillRead
+parseEntryOf Blackout v = heldOf (parseWindowOf v)
+parseEntryOf Kill v = parseKillOf v
 
 -- nothing gathered, with 0 or a refusal
 unfoldable pub noEntries : ℕ → Entries
@@ -39,9 +39,9 @@ entered e (KillRead.Taken w) = cond (ltb (e .count) 128) (record { kills = set (
 unfoldable pub withEntry : Entries → KillRead → Entries
 withEntry e r = cond (eqb (e .refusal) 0) (entered e r) e
 
-abbrev pub entriesFrom : Which → Entries → List (List ℕ) → Entries
-entriesFrom which e [] = e
-entriesFrom which e (v ∷ vs) = entriesFrom which (withEntry e (parseEntryOf which v)) vs
+abbrev pub entriesFrom : EntryKind → Entries → List (List ℕ) → Entries
+entriesFrom kind e [] = e
+entriesFrom kind e (v ∷ vs) = entriesFrom kind (withEntry e (parseEntryOf kind v)) vs
 
-unfoldable pub entriesOf : Which → List (List ℕ) → Entries
-entriesOf which vs = entriesFrom which (noEntries 0) vs
+unfoldable pub entriesOf : EntryKind → List (List ℕ) → Entries
+entriesOf kind vs = entriesFrom kind (noEntries 0) vs

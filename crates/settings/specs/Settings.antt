@@ -41,14 +41,14 @@ refusalOf (Setting.Decimal x) = 0
 refusalOf (Setting.Whole n) = 0
 refusalOf (Setting.Refused k) = k
 
--- a decimal is 0 where the option is absent
+-- the decimal, or 0 where the option is absent
 unfoldable pub floatOf : Setting → Float
 floatOf Setting.Absent = whole 0
 floatOf (Setting.Decimal x) = x
 floatOf (Setting.Whole n) = whole 0
 floatOf (Setting.Refused k) = whole 0
 
--- a whole number is another one where the option is absent
+-- the whole number, or `other` where the option is absent
 unfoldable pub wholeOf : ℕ → Setting → ℕ
 wholeOf other Setting.Absent = other
 wholeOf other (Setting.Decimal x) = other

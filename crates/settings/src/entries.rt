@@ -16,10 +16,10 @@ use args::Found;
 use numbers::REFUSED_ENTRIES;
 use values::part;
 
-// Which list is read.
-pub enum List {
-    Blackouts,
-    Kills,
+// EntryKind list is read.
+pub enum EntryKind {
+    Blackout,
+    Kill,
 }
 
 // What was gathered, with 0 or the number of the refusal; a blackout is kept as a window that holds.
@@ -53,12 +53,12 @@ fn held(w: WindowRead) -> KillRead
     }
 }
 
-fn parse_entry(list: List, v: &[u8]) -> KillRead
-    ensures { λ r. ⌜ r ≡ parseEntryOf list (now (v .entry)) ⌝ }
+fn parse_entry(kind: EntryKind, v: &[u8]) -> KillRead
+    ensures { λ r. ⌜ r ≡ parseEntryOf kind (now (v .entry)) ⌝ }
 {
-    match list {
-        List::Blackouts => held(Window::parse(v)),
-        List::Kills => parse_kill(v),
+    match kind {
+        EntryKind::Blackout => held(Window::parse(v)),
+        EntryKind::Kill => parse_kill(v),
     }
 }
 
@@ -90,8 +90,8 @@ fn with_entry(entries: Entries, entry: KillRead) -> Entries
 }
 
 // The entries of the key `prefix` then `name`, in the text's order.
-pub fn entries_at(text: &[u8], prefix: &[u8], name: &[u8], list: List) -> Entries
-    ensures { λ r. ⌜ r ≡ entriesOf list (valuesOf (now (prefix .entry) ++ now (name .entry)) (now (text .entry))) ⌝ }
+pub fn entries_at(text: &[u8], prefix: &[u8], name: &[u8], kind: EntryKind) -> Entries
+    ensures { λ r. ⌜ r ≡ entriesOf kind (valuesOf (now (prefix .entry) ++ now (name .entry)) (now (text .entry))) ⌝ }
 {
     let mut entries = no_entries(0);
     let mut cursor = Cursor::new();
@@ -103,7 +103,7 @@ pub fn entries_at(text: &[u8], prefix: &[u8], name: &[u8], list: List) -> Entrie
         match found {
             Found::Nothing => return entries,
             Found::At(at, len) => {
-                entries = with_entry(entries, parse_entry(list, part(text, at, len)))
+                entries = with_entry(entries, parse_entry(kind, part(text, at, len)))
             }
         }
     }

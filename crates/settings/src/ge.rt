@@ -34,7 +34,8 @@ pub struct GeRead {
     pub refusal: u32,
 }
 
-fn refused(refusal: u32) -> GeRead
+// Absent burst loss, with 0 or the number of the refusal.
+fn no_ge(refusal: u32) -> GeRead
     ensures { λ r. ⌜ r ≡ noGe refusal ⌝ }
 {
     GeRead {
@@ -48,17 +49,17 @@ fn chances(p: Decimal, r: Decimal, h: Decimal) -> GeRead
     ensures { λ x. ⌜ x ≡ chancesOf p r h ⌝ }
 {
     match p {
-        Decimal::Refused(k) => refused(k),
+        Decimal::Refused(k) => no_ge(k),
         Decimal::Number(p) => match r {
-            Decimal::Refused(k) => refused(k),
+            Decimal::Refused(k) => no_ge(k),
             Decimal::Number(r) => match h {
-                Decimal::Refused(k) => refused(k),
+                Decimal::Refused(k) => no_ge(k),
                 Decimal::Number(h) => {
                     if p <= 0.0 {
-                        return refused(REFUSED_GE_ZERO);
+                        return no_ge(REFUSED_GE_ZERO);
                     }
                     if r <= 0.0 {
-                        return refused(REFUSED_GE_ZERO);
+                        return no_ge(REFUSED_GE_ZERO);
                     }
                     GeRead {
                         ge: GeOption::Present(Ge { p, r, h }),
@@ -76,7 +77,7 @@ fn parse_ge(v: &[u8]) -> GeRead
 {
     let c = colons_of(v);
     match c {
-        Colons::Other => refused(REFUSED_GE_PARTS),
+        Colons::Other => no_ge(REFUSED_GE_PARTS),
         Colons::Two(a, b) => {
             let w = behind(v, a);
             let p = parse_prob(front(v, a));
@@ -93,7 +94,7 @@ pub fn ge_at(text: &[u8], prefix: &[u8], name: &[u8]) -> GeRead
 {
     let found = last_of(text, prefix, name);
     match found {
-        Found::Nothing => refused(0),
+        Found::Nothing => no_ge(0),
         Found::At(at, len) => parse_ge(part(text, at, len)),
     }
 }

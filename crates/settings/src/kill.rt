@@ -1,7 +1,6 @@
 // Windows in which connections are killed.
 ghost use mathlib.Core.Path.{_≡_};
-ghost use Rattle.settings.specs.Windows.{noKill};
-ghost use Rattle.settings.specs.Windows.{parseStyleOf, styledOf, parseKillOf};
+ghost use Rattle.settings.specs.Windows.{noKill, parseStyleOf, styledOf, parseKillOf};
 use crate::window::Window;
 use crate::window::WindowRead;
 use crate::window::bounds;
@@ -51,7 +50,7 @@ pub fn no_kill() -> TcpKill
 }
 
 // The style that a kill's third part names.
-pub fn parse_style(v: &[u8]) -> StyleRead
+fn parse_style(v: &[u8]) -> StyleRead
     ensures { λ r. ⌜ r ≡ parseStyleOf (now (v .entry)) ⌝ }
 {
     if is_same(v, b"rst") {
@@ -64,7 +63,7 @@ pub fn parse_style(v: &[u8]) -> StyleRead
 }
 
 // A window with a style, each read or refused.
-pub fn styled(w: WindowRead, s: StyleRead) -> KillRead
+fn styled(w: WindowRead, s: StyleRead) -> KillRead
     ensures { λ r. ⌜ r ≡ styledOf w s ⌝ }
 {
     match w {
@@ -77,7 +76,7 @@ pub fn styled(w: WindowRead, s: StyleRead) -> KillRead
 }
 
 // START:END:STYLE, with blanks around the bounds or none.
-pub fn parse_kill(v: &[u8]) -> KillRead
+pub(crate) fn parse_kill(v: &[u8]) -> KillRead
     ensures { λ r. ⌜ r ≡ parseKillOf (now (v .entry)) ⌝ }
 {
     let c = colons_of(v);

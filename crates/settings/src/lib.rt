@@ -6,7 +6,7 @@ mod setting;
 mod window;
 
 pub use entries::Entries;
-pub use entries::List;
+pub use entries::EntryKind;
 pub use entries::entries_at;
 pub use entries::windows_of;
 pub use ge::Ge;

@@ -1,7 +1,6 @@
 // Windows of time.
 ghost use mathlib.Core.Path.{_≡_};
-ghost use Rattle.settings.specs.Windows.{noWindow};
-ghost use Rattle.settings.specs.Windows.{containsOf, boundsOf, parseWindowOf};
+ghost use Rattle.settings.specs.Windows.{noWindow, containsOf, boundsOf, parseWindowOf};
 use numbers::REFUSED_COLON;
 use numbers::REFUSED_WINDOW;
 use values::Whole;
@@ -34,7 +33,7 @@ pub fn no_window() -> Window
 }
 
 // The window of two bounds that were read.
-pub fn bounds(start: Whole, end: Whole) -> WindowRead
+pub(crate) fn bounds(start: Whole, end: Whole) -> WindowRead
     ensures { λ r. ⌜ r ≡ boundsOf start end ⌝ }
 {
     match start {

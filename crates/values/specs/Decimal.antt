@@ -9,7 +9,6 @@ use lib.ListN.{length}
 use Rattle.numbers.specs.Digits.{allDigits, wholeValue, decimalValue}
 use Rattle.numbers.specs.Refusals.{refusedDecimal, refusedProbability}
 use Rattle.numbers.specs.Whole.{whole}
-use Rattle.values.specs.declared.whole.Whole.{Whole}
 use Rattle.values.specs.declared.decimal.Decimal.{Decimal}
 use Rattle.values.specs.declared.decimal.Decimal.the-variants.{Number, Refused}
 use Rattle.values.specs.Bytes.{before, behind, point}
@@ -33,8 +32,3 @@ atMostOne (Refused k) = Refused k
 
 abbrev pub parseProbOf : List ℕ → Decimal
 parseProbOf v = atMostOne (parseF64MsOf v)
-
--- digits that were read, over 10 ^ k
-unfoldable pub overTen : Whole → ℕ → Decimal
-overTen (Whole.Number n) k = Number (decimalValue n k)
-overTen (Whole.Refused _) k = Refused refusedDecimal

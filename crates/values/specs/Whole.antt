@@ -1,5 +1,5 @@
 -- "A whole number is an optional `+` and one or more digits, below 2^64. Seed may be any; all others at most 2^53".
-use mathlib.Core.Bool.{_&&_, cond}
+use mathlib.Core.Bool.{Bool, _&&_, cond}
 use mathlib.Core.List.{List, [], _∷_}
 use Prim.Native.Nat.{ℕ, _^_}
 use lib.Dec.{leb, ltb, eqb}
@@ -23,9 +23,12 @@ withoutPlus (b ∷ s) = cond (eqb b plus) s (b ∷ s)
 unfoldable pub parseU64Of : List ℕ → Whole
 parseU64Of v = cond (eqb (length (withoutPlus v)) 0) (Refused refusedWhole) (digitsFrom 0 (withoutPlus v))
 
--- at most 2 ^ 53
+-- "all others at most 2^53 = 9007199254740992"
+abbrev pub isBounded : ℕ → Bool
+isBounded n = leb n (2 ^ 53)
+
 unfoldable pub atMost : Whole → Whole
-atMost (Number n) = cond (leb n (2 ^ 53)) (Number n) (Refused refusedWholeAbove)
+atMost (Number n) = cond (isBounded n) (Number n) (Refused refusedWholeAbove)
 atMost (Refused k) = Refused k
 
 abbrev pub parseBoundedOf : List ℕ → Whole
@@ -38,8 +41,3 @@ notZero (Refused k) = Refused k
 
 abbrev pub parsePositiveOf : List ℕ → Whole
 parsePositiveOf v = notZero (parseBoundedOf v)
-
--- digits behind those that were read to a number
-abbrev pub readOn : Whole → List ℕ → Whole
-readOn (Number n) s = digitsFrom n s
-readOn (Refused k) s = Refused k

@@ -1,8 +1,8 @@
 // Decimals: the digits as a whole number over a power of ten, one division.
 ghost use mathlib.Core.Path.{_≡_};
 ghost use Prim.Native.Nat.{_^_, _≤_};
-ghost use Rattle.values.specs.Whole.{readOn};
-ghost use Rattle.values.specs.Decimal.{parseF64MsOf, overTen, atMostOne, parseProbOf};
+ghost use Rattle.values.specs.Stages.{readOn, overTen};
+ghost use Rattle.values.specs.Decimal.{parseF64MsOf, atMostOne, parseProbOf};
 use crate::bytes::behind;
 use crate::bytes::front;
 use crate::bytes::up_to;

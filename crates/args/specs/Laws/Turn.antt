@@ -13,7 +13,7 @@ use Rattle.args.specs.declared.cursor.Arg.{Arg}
 use Rattle.args.specs.declared.cursor.Arg.the-variants.{End, Refused, Flag, Pair}
 use Rattle.args.specs.declared.cursor.Step.{Step}
 use Rattle.args.specs.Arguments.{argumentsOf, dashes, dashed, Gathered, stop, also, flag, pair, none, gather, gathered}
-use Rattle.args.specs.Places.{nextOf, goesOn}
+use Rattle.args.specs.Places.{nextOf, keyedOf, valuedOf, goesOn}
 use Rattle.args.specs.Laws.Arguments.{no-argument, first-argument}
 use Rattle.args.specs.Laws.Parts.{part-len, drop-take}
 
@@ -82,7 +82,7 @@ module _ (s : List ℕ) (at : ℕ) where
   value-part = rw (← (drop-drop (q + 1) at s)) (sym (drop-take (q + 1) n rest))
 
   cases : (t u v w x : Bool) → has 0 rest ≡ t → dashed a ≡ u → has equals a ≡ v → same key (bytes "verbose") ≡ w → has 0 more ≡ x → Turn s at (nextOf s at)
-  unfolding nextOf gathered
+  unfolding nextOf keyedOf valuedOf gathered
   cases false u v w x e1 e2 e3 e4 e5 = rw e1 (record { same = rw (no-argument rest e1); further = never; within = never })
   cases true false v w x e1 e2 e3 e4 e5 = rw (e1, e2) (record { same = first e1 ∙ rw e2; further = never; within = never })
   cases true true true w x e1 e2 e3 e4 e5 = rw (e1, e2, e3) (record { same = first e1 ∙ rw (e2, e3, key-part, value-part); further = λ _. omega arith; within = λ _. within-text at e1 })

@@ -6,7 +6,7 @@ use native.Mathlib.Nat.{le-trans, one-le-pow, pow-le-pow-right, mul-pos, mul-le-
 use native.Mathlib.Omega.{arith}
 use lib.Dec.{T, ltb→lt, lit<, lit≤}
 use lib.IntN.{pos}
-use lib.Ieee.{Float, fin, binary64, round, div, ofInt, ofBits, lt, le, up, down, fits}
+use lib.Ieee.{Float, fin, binary64, round, div, ofInt, lt, le, up, down, fits}
 use lib.Ieee.Bits.{is-true}
 use lib.Ieee.Exact.{HasValue}
 use lib.Ieee.Fits.{up-pos, down-pos}
@@ -75,17 +75,7 @@ decimal-time n k h l = (is-true _ (nought-least (decimal-clear n k (omega arith)
 pub probability-within : (x : Float) → Number x → lt (whole 1) x ≡ false → le x (whole 1) ≡ true
 probability-within x p h = sym (Bool·not-not (le x (whole 1))) ∙ ap not (sym (lt-is-not-le p (plus-finite-number (whole-bounded 1 (lit≤ tt) .clear))) ∙ h)
 
--- the bits of 1
-pub one-bits : whole 1 ≡ ofBits binary64 0x3FF0000000000000
-unfolding ofInt ofBits
-one-bits = refl
-
 -- the whole number 0 as a float is +0
 pub whole-zero : whole 0 ≡ nought
 unfolding ofInt
 whole-zero = refl
-
--- and so is the decimal 0
-pub decimal-zero : decimalValue 0 0 ≡ nought
-unfolding decimalValue div ofInt
-decimal-zero = refl

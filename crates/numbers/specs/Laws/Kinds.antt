@@ -37,9 +37,6 @@ unfolding isNan
 number-is (number-inf s) = refl
 number-is (number-fin s m e) = refl
 
-pub finite-number : {x : Float} → Finite x → Number x
-finite-number (finite-fin s m e) = number-fin s m e
-
 pub plus-number : {x : Float} → Plus x → Number x
 plus-number plus-inf = number-inf false
 plus-number (plus-fin m e) = number-fin false m e

@@ -6,11 +6,11 @@ use Prim.Native.Nat.{ℕ}
 use native.Mathlib.Omega.{arith}
 use lib.Dec.{eqb}
 use lib.Ieee.{le, ofInt}
-use Rattle.numbers.specs.Whole.{whole}
-use Rattle.settings.specs.declared.entries.List.the-variants.{Blackouts, Kills}
+use Rattle.values.specs.Whole.{isBounded}
+use Rattle.settings.specs.declared.entries.EntryKind.the-variants.{Blackout, Kill}
 use Rattle.options.specs.Config.{defaultDirection, defaultConfig}
 use Rattle.options.specs.Directions.{lossesOf, delaysOf, limitsOf, schedulesOf, joinedOf, directionOf}
-use Rattle.settings.specs.Judgement.{isBounded, isPositive}
+use Rattle.settings.specs.Judgement.{isPositive}
 use Rattle.options.specs.Judgement.{isSettingsOf}
 use Rattle.options.specs.Laws.Limits.{rate-judged, mtu-judged, burst-for}
 use Rattle.options.specs.Parse.{parseOf, settledOf, refusedWith, textRefusalOf, firstRefusal, taken}
@@ -29,13 +29,13 @@ unfolding isSettingsOf directionOf joinedOf lossesOf delaysOf limitsOf schedules
 direction-judged s prefix =
     both _ _ (probability-judged _) (both _ _ (ge-judged _) (both _ _ (time-judged _) (both _ _ (time-judged _) (both _ _ (probability-judged _)
     (both _ _ (time-judged _) (both _ _ (probability-judged _) (both _ _ (rate-judged _) (both _ _ (burst-for _ (count-judged 0 (omega arith) _) _ (rate-judged _))
-    (both _ _ (mtu-judged _) (both _ _ (windows-judged Blackouts _) (both _ _ (positive-judged 0 (omega arith) _) (kills-judged Kills _))))))))))))
+    (both _ _ (mtu-judged _) (both _ _ (windows-judged Blackout _) (both _ _ (positive-judged 0 (omega arith) _) (kills-judged Kill _))))))))))))
 
 pub default-judged : isSettingsOf defaultDirection ≡ true
 unfolding isSettingsOf defaultDirection le ofInt
 default-judged = refl
 
--- what refusal 29 asks of both directions, and of the whole numbers beside them
+-- what refusal 29 asks of both directions, and what 8 and 9 ask of the numbers beside them
 pub record Sound (c : Config) : Type 0 where
   pub c2s-judged : isSettingsOf (c .c2s) ≡ true
   pub s2c-judged : isSettingsOf (c .s2c) ≡ true
@@ -51,11 +51,11 @@ unfolding refusedWith
 refused-sound k = default-sound
 
 scalars-duration : (s : List ℕ) → isBounded (scalarsOf s .«duration_ms») ≡ true
-unfolding scalarsOf
+unfolding scalarsOf defaultConfig
 scalars-duration s = count-judged 0 (omega arith) _
 
 scalars-cap : (s : List ℕ) → isPositive (scalarsOf s .«queue_cap») ≡ true
-unfolding scalarsOf
+unfolding scalarsOf defaultConfig
 scalars-cap s = cap-judged 100000 refl _
 
 settled-sound : (x : Scalars) (a b : Directed) → isBounded (x .«duration_ms») ≡ true → isPositive (x .«queue_cap») ≡ true → isSettingsOf (a .config) ≡ true → isSettingsOf (b .config) ≡ true → Sound (settledOf x a b .config)

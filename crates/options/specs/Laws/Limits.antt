@@ -8,11 +8,10 @@ use lib.Dec.{ltb, eqb}
 use Rattle.args.specs.Arguments.{Value, absent, given}
 use Rattle.values.specs.declared.whole.Whole.{Whole}
 use Rattle.values.specs.Laws.Digits.{positive-or}
-use Rattle.values.specs.Whole.{parseU64Of}
+use Rattle.values.specs.Whole.{parseU64Of, isBounded}
 use Rattle.options.specs.declared.config.RateOption.{RateOption}
 use Rattle.settings.specs.declared.setting.Kind.the-variants.{Positive}
 use Rattle.options.specs.Directions.{rateOf, mtuOf, burstOf}
-use Rattle.settings.specs.Judgement.{isBounded}
 use Rattle.settings.specs.Settings.{ofWhole, parseSettingOf, settingOf}
 use Rattle.numbers.specs.Laws.Both.{both-true}
 use Rattle.settings.specs.Laws.Numbers.{bounded-is, positive-is}

@@ -16,8 +16,8 @@ use Rattle.values.specs.Laws.Digits.{bounded-or}
 use Rattle.values.specs.Laws.Parts.{three-or}
 use Rattle.values.specs.Parts.{split}
 use Rattle.settings.specs.declared.entries.Entries.{Entries}
-use Rattle.settings.specs.declared.entries.List.{List as Which}
-use Rattle.settings.specs.declared.entries.List.the-variants.{Blackouts, Kills}
+use Rattle.settings.specs.declared.entries.EntryKind.{EntryKind}
+use Rattle.settings.specs.declared.entries.EntryKind.the-variants.{Blackout, Kill}
 use Rattle.settings.specs.declared.kill.KillRead.{KillRead}
 use Rattle.settings.specs.declared.kill.KillStyle.the-variants.{Hold}
 use Rattle.settings.specs.declared.kill.StyleRead.{StyleRead}
@@ -52,10 +52,10 @@ unfolding heldOf
 held-or P taken turned v true = bounds-or (λ (w : WindowRead). P (heldOf w)) (λ w h. taken (record { window = w; style = Hold }) h) turned (before colon v) (behind colon v)
 held-or P taken turned v false = turned refusedColon
 
-entry-or : (P : KillRead → Type 0) → ((k : TcpKill) → isKill k ≡ true → P (KillRead.Taken k)) → ((k : ℕ) → P (KillRead.Refused k)) → (which : Which) (v : List ℕ) → P (parseEntryOf which v)
+entry-or : (P : KillRead → Type 0) → ((k : TcpKill) → isKill k ≡ true → P (KillRead.Taken k)) → ((k : ℕ) → P (KillRead.Refused k)) → (kind : EntryKind) (v : List ℕ) → P (parseEntryOf kind v)
 unfolding parseEntryOf parseWindowOf parseKillOf styledOf
-entry-or P taken turned Blackouts v = held-or P taken turned v (has colon v)
-entry-or P taken turned Kills v =
+entry-or P taken turned Blackout v = held-or P taken turned v (has colon v)
+entry-or P taken turned Kill v =
     three-or killParts (KillRead.Refused refusedKillParts) P
     (λ a b c. bounds-or (λ (w : WindowRead). P (styledOf w (parseStyleOf c))) (λ w h. styled-or P taken turned w h (parseStyleOf c)) turned a b)
     (turned refusedKillParts) (split colon v)
@@ -84,24 +84,24 @@ entered-judged e j k h true l =
       each = rw (add-one, take-suc-set (e .kills) (e .count) k (omega (arith, j .size))) (all-last (take (e .count) (e .kills)) k (j .each) h);
     }
 
-with-judged : (e : Entries) → Judged e → (which : Which) (v : List ℕ) → Judged (withEntry e (parseEntryOf which v))
+with-judged : (e : Entries) → Judged e → (kind : EntryKind) (v : List ℕ) → Judged (withEntry e (parseEntryOf kind v))
 unfolding withEntry
-with-judged e j which v = go (eqb (e .refusal) 0)
+with-judged e j kind v = go (eqb (e .refusal) 0)
   where
-    go : (t : Bool) → Judged (cond t (entered e (parseEntryOf which v)) e)
-    go true = entry-or (λ (r : KillRead). Judged (entered e r)) (λ k h. entered-judged e j k h (ltb (e .count) 128) refl) none-judged which v
+    go : (t : Bool) → Judged (cond t (entered e (parseEntryOf kind v)) e)
+    go true = entry-or (λ (r : KillRead). Judged (entered e r)) (λ k h. entered-judged e j k h (ltb (e .count) 128) refl) none-judged kind v
     go false = j
 
-from-judged : (which : Which) (vs : List (List ℕ)) (e : Entries) → Judged e → Judged (entriesFrom which e vs)
-from-judged which [] e j = j
-from-judged which (v ∷ vs) e j = from-judged which vs (withEntry e (parseEntryOf which v)) (with-judged e j which v)
+from-judged : (kind : EntryKind) (vs : List (List ℕ)) (e : Entries) → Judged e → Judged (entriesFrom kind e vs)
+from-judged kind [] e j = j
+from-judged kind (v ∷ vs) e j = from-judged kind vs (withEntry e (parseEntryOf kind v)) (with-judged e j kind v)
 
-entries-judged : (which : Which) (vs : List (List ℕ)) → Judged (entriesOf which vs)
+entries-judged : (kind : EntryKind) (vs : List (List ℕ)) → Judged (entriesOf kind vs)
 unfolding entriesOf
-entries-judged which vs = from-judged which vs (noEntries 0) (none-judged 0)
+entries-judged kind vs = from-judged kind vs (noEntries 0) (none-judged 0)
 
-pub kills-judged : (which : Which) (vs : List (List ℕ)) → isList isKill (entriesOf which vs .kills) (entriesOf which vs .count) ≡ true
-kills-judged which vs = let j = entries-judged which vs in both _ _ (le-leb _ 128 (j .most)) (j .each)
+pub kills-judged : (kind : EntryKind) (vs : List (List ℕ)) → isList isKill (entriesOf kind vs .kills) (entriesOf kind vs .count) ≡ true
+kills-judged kind vs = let j = entries-judged kind vs in both _ _ (le-leb _ 128 (j .most)) (j .each)
 
 -- the windows of kills pass as the kills do
 all-windows : (n : ℕ) (l : List TcpKill) → allOf isWindow (take n (map windowOf l)) ≡ allOf isKill (take n l)
@@ -109,5 +109,5 @@ all-windows zero l = refl
 all-windows (suc n) [] = refl
 all-windows (suc n) (k ∷ l) = ap (λ (t : Bool). isKill k && t) (all-windows n l)
 
-pub windows-judged : (which : Which) (vs : List (List ℕ)) → isList isWindow (map windowOf (entriesOf which vs .kills)) (entriesOf which vs .count) ≡ true
-windows-judged which vs = rw (all-windows (entriesOf which vs .count) (entriesOf which vs .kills)) (kills-judged which vs)
+pub windows-judged : (kind : EntryKind) (vs : List (List ℕ)) → isList isWindow (map windowOf (entriesOf kind vs .kills)) (entriesOf kind vs .count) ≡ true
+windows-judged kind vs = rw (all-windows (entriesOf kind vs .count) (entriesOf kind vs .kills)) (kills-judged kind vs)

@@ -17,9 +17,9 @@ use Rattle.values.specs.declared.whole.Whole.{Whole}
 use Rattle.values.specs.Decimal.{parseF64MsOf, atMostOne, parseProbOf}
 use Rattle.values.specs.Laws.Decimals.{decimal-or}
 use Rattle.values.specs.Laws.Digits.{bounded-or, positive-or}
-use Rattle.values.specs.Whole.{parseU64Of}
+use Rattle.values.specs.Whole.{parseU64Of, isBounded}
 use Rattle.settings.specs.declared.setting.Kind.the-variants.{Probability, Milliseconds, Count, Positive}
-use Rattle.settings.specs.Judgement.{isProbability, isTime, isBounded, isPositive}
+use Rattle.settings.specs.Judgement.{isProbability, isTime, isPositive}
 use Rattle.settings.specs.Settings.{ofDecimal, ofWhole, parseSettingOf, settingOf, floatOf, wholeOf}
 use Rattle.numbers.specs.Laws.Both.{both}
 

@@ -18,8 +18,9 @@ use Rattle.numbers.specs.Laws.Both.{second-false}
 use Rattle.values.specs.declared.whole.Whole.{Whole}
 use Rattle.values.specs.declared.decimal.Decimal.{Decimal}
 use Rattle.values.specs.declared.decimal.Decimal.the-variants.{Number, Refused}
-use Rattle.values.specs.Whole.{digitsFrom, readOn}
-use Rattle.values.specs.Decimal.{decimalOf, overTen}
+use Rattle.values.specs.Whole.{digitsFrom}
+use Rattle.values.specs.Stages.{readOn, overTen}
+use Rattle.values.specs.Decimal.{decimalOf}
 use Rattle.values.specs.Laws.Digits.{digits-few}
 
 room : (w f : List ℕ) → length w + length f ≤ 15 → 10 ^ length w * 10 ^ length f ≤ 2 ^ 64

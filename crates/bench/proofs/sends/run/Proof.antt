@@ -37,8 +37,8 @@ loop-less c = search needs
 loop-again : tie.Need-loop-again Inv-loop μ-loop
 loop-again c = search needs
 
-told-requires : tie.Need-told-requires Inv-loop μ-loop
-told-requires c κs = search needs
+print-counts-requires : tie.Need-print-counts-requires Inv-loop μ-loop
+print-counts-requires c κs = search needs
 
 returns : tie.Need-returns Inv-loop μ-loop
 returns c = search needs
@@ -58,5 +58,5 @@ run-spec =
     add-counter
     loop-less
     loop-again
-    told-requires
+    print-counts-requires
     returns)

@@ -24,12 +24,12 @@ returns-3 : tie.Need-returns-3
 unfolding textRefusalOf
 returns-3 c = rw (le-ltb _ _ (c .before .before .before .before .if1 .left), sym (c .before .before .before .unclosed .ensures) ∙ c .before .before .if2 .left, sym (c .before .any-high .ensures) ∙ c .if3 .taken)
 
-fault-of-requires : tie.Need-fault-of-requires
-fault-of-requires c κs = search needs
+refusal-of-requires : tie.Need-refusal-of-requires
+refusal-of-requires c κs = search needs
 
 returns-4 : tie.Need-returns-4
 unfolding textRefusalOf
-returns-4 c = rw (le-ltb _ _ (c .before .before .before .before .before .if1 .left), sym (c .before .before .before .before .unclosed .ensures) ∙ c .before .before .before .if2 .left, sym (c .before .before .any-high .ensures) ∙ c .before .if3 .left, c .fault-of .ensures)
+returns-4 c = rw (le-ltb _ _ (c .before .before .before .before .before .if1 .left), sym (c .before .before .before .before .unclosed .ensures) ∙ c .before .before .before .if2 .left, sym (c .before .before .any-high .ensures) ∙ c .before .if3 .left, c .refusal-of .ensures)
 
 pub text-refusal-spec : {M : Type 1} → statement M
 text-refusal-spec =
@@ -40,5 +40,5 @@ text-refusal-spec =
     returns-2
     any-high-requires
     returns-3
-    fault-of-requires
+    refusal-of-requires
     returns-4)

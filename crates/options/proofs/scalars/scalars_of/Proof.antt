@@ -1,4 +1,5 @@
 -- Each setting is its definition, and the refusals are joined in the source's order.
+use Rattle.options.specs.Config.{defaultConfig}
 use Rattle.options.specs.Scalars.{scalarsOf}
 use borrow.Author.Needs.{needs}
 use Rattle.options.proofs.scalars.scalars_of.Statement.{statement}
@@ -68,7 +69,7 @@ earlier-of-requires-3 : tie.Need-earlier-of-requires-3
 earlier-of-requires-3 c κs = search needs
 
 returns : tie.Need-returns
-unfolding scalarsOf
+unfolding scalarsOf defaultConfig
 returns c = rw (c .earlier-of3 .ensures, c .before .earlier-of2 .ensures, c .before .before .refusal3 .ensures, c .before .before .before .size .ensures, c .before .before .before .before .whole3 .ensures, c .before .before .before .before .before .whole2 .ensures, c .before .before .before .before .before .before .whole .ensures, c .before .before .before .before .before .before .before .earlier-of .ensures, c .before .before .before .before .before .before .before .before .refusal2 .ensures, c .before .before .before .before .before .before .before .before .before .refusal .ensures, c .before .before .before .before .before .before .before .before .before .before .verbose-at .ensures, c .before .before .before .before .before .before .before .before .before .before .before .setting-at3 .ensures, c .before .before .before .before .before .before .before .before .before .before .before .before .before .before .setting-at2 .ensures, c .before .before .before .before .before .before .before .before .before .before .before .before .before .before .before .before .before .setting-at .ensures, c .before .before .before .before .before .before .before .before .before .before .before .before .before .before .before .before .before .before .before .before .mode-at .ensures)
 
 pub scalars-of-spec : {M : Type 1} → statement M

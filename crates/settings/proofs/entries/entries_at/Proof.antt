@@ -14,17 +14,17 @@ use Rattle.settings.proofs.entries.entries_at.Statement.{statement}
 use Rattle.settings.proofs.entries.entries_at.Tie as tie
 
 abbrev Inv-loop : tie.InvT-loop
-Inv-loop text prefix name list entries₀ cursor₀ entries cursor = entriesFrom list (noEntries 0) (valuesOf (prefix ++ name) text) ≡ entriesFrom list entries (valuesOf (prefix ++ name) (drop (cursor .at) text))
+Inv-loop text prefix name kind entries₀ cursor₀ entries cursor = entriesFrom kind (noEntries 0) (valuesOf (prefix ++ name) text) ≡ entriesFrom kind entries (valuesOf (prefix ++ name) (drop (cursor .at) text))
 
 abbrev μ-loop : tie.MeasureT-loop
-μ-loop text prefix name list entries₀ cursor₀ entries cursor = length text - cursor .at
+μ-loop text prefix name kind entries₀ cursor₀ entries cursor = length text - cursor .at
 
 -- what the cursor's step says of the values
 hit-is : (c : tie.After-next-of Inv-loop μ-loop) → Hits (now (c .before .before .before .before .before .before .before .args .text)) (now (c .before .before .before .before .before .before .before .args .prefix) ++ now (c .before .before .before .before .before .before .before .args .name)) (c .before .loop .cursor .at) (c .next-of .result)
 hit-is c = rw (c .next-of .ensures) (hits (now (c .before .before .before .before .before .before .before .args .text)) (now (c .before .before .before .before .before .before .before .args .prefix) ++ now (c .before .before .before .before .before .before .before .args .name)) (c .before .loop .cursor .at))
 
-turn : (c : tie.After-next-of Inv-loop μ-loop) → entriesFrom (c .before .before .before .before .before .before .before .args .list) (noEntries 0) (valuesOf (now (c .before .before .before .before .before .before .before .args .prefix) ++ now (c .before .before .before .before .before .before .before .args .name)) (now (c .before .before .before .before .before .before .before .args .text))) ≡ entriesFrom (c .before .before .before .before .before .before .before .args .list) (c .before .loop .entries) (hitOn (now (c .before .before .before .before .before .before .before .args .text)) (c .next-of .result .found) (valuesOf (now (c .before .before .before .before .before .before .before .args .prefix) ++ now (c .before .before .before .before .before .before .before .args .name)) (drop (c .next-of .result .cursor .at) (now (c .before .before .before .before .before .before .before .args .text)))))
-turn c = c .before .loop .inv ∙ ap (λ (vs : List (List ℕ)). entriesFrom (c .before .before .before .before .before .before .before .args .list) (c .before .loop .entries) vs) (hit-is c .same)
+turn : (c : tie.After-next-of Inv-loop μ-loop) → entriesFrom (c .before .before .before .before .before .before .before .args .kind) (noEntries 0) (valuesOf (now (c .before .before .before .before .before .before .before .args .prefix) ++ now (c .before .before .before .before .before .before .before .args .name)) (now (c .before .before .before .before .before .before .before .args .text))) ≡ entriesFrom (c .before .before .before .before .before .before .before .args .kind) (c .before .loop .entries) (hitOn (now (c .before .before .before .before .before .before .before .args .text)) (c .next-of .result .found) (valuesOf (now (c .before .before .before .before .before .before .before .args .prefix) ++ now (c .before .before .before .before .before .before .before .args .name)) (drop (c .next-of .result .cursor .at) (now (c .before .before .before .before .before .before .before .args .text)))))
+turn c = c .before .loop .inv ∙ ap (λ (vs : List (List ℕ)). entriesFrom (c .before .before .before .before .before .before .before .args .kind) (c .before .loop .entries) vs) (hit-is c .same)
 
 no-entries-requires : tie.Need-no-entries-requires Inv-loop μ-loop
 no-entries-requires c κs = search needs

@@ -13,8 +13,8 @@ last-of-requires c κs = search needs
 enum-told : tie.Need-enum-told
 enum-told c = search needs
 
-refused-requires : tie.Need-refused-requires
-refused-requires c κs = search needs
+no-ge-requires : tie.Need-no-ge-requires
+no-ge-requires c κs = search needs
 
 enum-known-found : tie.Need-enum-known-found
 enum-known-found c = search needs
@@ -27,7 +27,7 @@ parse-ge-requires c κs = search needs
 
 returns : tie.Need-returns
 unfolding geOf
-returns c = rw (← (last-value (now (c .before .before .before .before .before .before .before .args .text)) (now (c .before .before .before .before .before .before .before .args .prefix) ++ now (c .before .before .before .before .before .before .before .args .name))), ← (c .before .before .before .last-of .ensures), c .before .enum-told .given .1) (c .refused .ensures)
+returns c = rw (← (last-value (now (c .before .before .before .before .before .before .before .args .text)) (now (c .before .before .before .before .before .before .before .args .prefix) ++ now (c .before .before .before .before .before .before .before .args .name))), ← (c .before .before .before .last-of .ensures), c .before .enum-told .given .1) (c .no-ge .ensures)
 
 returns-2 : tie.Need-returns-2
 unfolding geOf
@@ -39,7 +39,7 @@ ge-at-spec =
     (tie.spec
     last-of-requires
     enum-told
-    refused-requires
+    no-ge-requires
     enum-known-found
     part-requires
     parse-ge-requires

@@ -13,8 +13,8 @@ colons-of-requires c κs = search needs
 enum-told : tie.Need-enum-told
 enum-told c = search needs
 
-refused-requires : tie.Need-refused-requires
-refused-requires c κs = search needs
+no-ge-requires : tie.Need-no-ge-requires
+no-ge-requires c κs = search needs
 
 enum-known-c : tie.Need-enum-known-c
 enum-known-c c = search needs
@@ -45,7 +45,7 @@ chances-requires c κs = search needs
 
 returns : tie.Need-returns
 unfolding parseGeOf
-returns c = rw (three-told geParts (noGe refusedGeParts) (now (c .before .before .before .before .before .args .v)), ← (c .before .before .before .colons-of .ensures), c .before .enum-told .given .1) (c .refused .ensures)
+returns c = rw (three-told geParts (noGe refusedGeParts) (now (c .before .before .before .before .before .args .v)), ← (c .before .before .before .colons-of .ensures), c .before .enum-told .given .1) (c .no-ge .ensures)
 
 returns-2 : tie.Need-returns-2
 unfolding parseGeOf
@@ -57,7 +57,7 @@ parse-ge-spec =
     (tie.spec
     colons-of-requires
     enum-told
-    refused-requires
+    no-ge-requires
     enum-known-c
     behind-requires
     front-requires

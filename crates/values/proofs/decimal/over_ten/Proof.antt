@@ -1,6 +1,6 @@
 -- Both numbers become floats and are divided once.
 use Rattle.numbers.specs.Digits.{decimalValue}
-use Rattle.values.specs.Decimal.{overTen}
+use Rattle.values.specs.Stages.{overTen}
 use borrow.Author.Needs.{needs}
 use Rattle.values.proofs.decimal.over_ten.Statement.{statement}
 use Rattle.values.proofs.decimal.over_ten.Tie as tie

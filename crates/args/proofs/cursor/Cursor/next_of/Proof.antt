@@ -19,10 +19,10 @@ use Rattle.args.proofs.cursor.Cursor.next_of.Statement.{statement}
 use Rattle.args.proofs.cursor.Cursor.next_of.Tie as tie
 
 abbrev Inv-loop : tie.InvT-loop
-Inv-loop self text prefix name k n v l tail j₀ j = (j ≤ length name) × ((length tail ≡ length name) × (same tail name ≡ same (drop j tail) (drop j name)))
+Inv-loop self text prefix name k n v l tail j₀ j-end j = (j ≤ length name) × ((length tail ≡ length name) × (same tail name ≡ same (drop j tail) (drop j name)))
 
 abbrev μ-loop : tie.MeasureT-loop
-μ-loop self text prefix name k n v l tail j₀ j = length name - j
+μ-loop self text prefix name k n v l tail j₀ j-end j = length name - j
 
 abbrev Inv-args2 : tie.InvT-args2
 Inv-args2 self₀ text prefix name self = hitOf text (prefix ++ name) (self₀ .at) ≡ hitOf text (prefix ++ name) (self .at)
@@ -55,14 +55,14 @@ next-requires c κs = search needs
 enum-told : tie.Need-enum-told Inv-loop μ-loop Inv-args2 μ-args2
 enum-told c = search needs
 
-returns : tie.Need-returns Inv-loop μ-loop Inv-args2 μ-args2
-returns c = sym (turn (c .before .before .before) ∙ rw (c .enum-told .given .1))
+returns-2 : tie.Need-returns-2 Inv-loop μ-loop Inv-args2 μ-args2
+returns-2 c = sym (turn (c .before .before .before) ∙ rw (c .enum-told .given .1))
 
 enum-told-2 : tie.Need-enum-told-2 Inv-loop μ-loop Inv-args2 μ-args2
 enum-told-2 c = search needs
 
-returns-2 : tie.Need-returns-2 Inv-loop μ-loop Inv-args2 μ-args2
-returns-2 c = sym (turn (c .before .before .before) ∙ rw (c .enum-told2 .given .1))
+returns-3 : tie.Need-returns-3 Inv-loop μ-loop Inv-args2 μ-args2
+returns-3 c = sym (turn (c .before .before .before) ∙ rw (c .enum-told2 .given .1))
 
 enum-told-3 : tie.Need-enum-told-3 Inv-loop μ-loop Inv-args2 μ-args2
 enum-told-3 c = search needs
@@ -124,8 +124,8 @@ loop-less c = search needs
 loop-again : tie.Need-loop-again Inv-loop μ-loop Inv-args2 μ-args2
 loop-again c = (search needs, (search needs, c .before .before .before .before .loop .inv .1 .1 ∙ rw (step (now (c .before .before .before .before .before .before .after .result)) (c .before .before .before .before .loop .j) (omega arith), step (now (c .before .before .before .before .before .before .before .before .before .before .before .before .before .before .before .before .before .before .before .before .args .name)) (c .before .before .before .before .loop .j) (c .before .before .before .loop-test .taken), eq-eqb _ _ (c .if3 .left))))
 
-returns-3 : tie.Need-returns-3 Inv-loop μ-loop Inv-args2 μ-args2
-returns-3 c = sym (turn-pair (c .before .before .before .before .before .before .before) ∙ rw (tail-decides (c .before .before .before), c .before .loop .inv .1 .1, end (now (c .before .before .before .after .result)) (c .before .loop .j) (omega arith), end (now (c .before .before .before .before .before .before .before .before .before .before .before .before .before .before .before .before .before .args .name)) (c .before .loop .j) (c .loop-test .left)))
+returns : tie.Need-returns Inv-loop μ-loop Inv-args2 μ-args2
+returns c = sym (turn-pair (c .before .before .before .before .before .before .before) ∙ rw (tail-decides (c .before .before .before), c .before .loop .inv .1 .1, end (now (c .before .before .before .after .result)) (c .before .loop .j) (omega arith), end (now (c .before .before .before .before .before .before .before .before .before .before .before .before .before .before .before .before .before .args .name)) (c .before .loop .j) (c .loop-test .left)))
 
 pub next-of-spec : {M : Type 1} → statement M
 next-of-spec =
@@ -138,9 +138,7 @@ next-of-spec =
     args2-holds
     next-requires
     enum-told
-    returns
     enum-told-2
-    returns-2
     enum-told-3
     args2-less
     args2-again
@@ -161,4 +159,6 @@ next-of-spec =
     add-j
     loop-less
     loop-again
+    returns
+    returns-2
     returns-3)

@@ -8,17 +8,17 @@ use Rattle.args.specs.Arguments.{Gathered, gathered}
 use Rattle.args.specs.Places.{goesOn}
 use Rattle.args.specs.Laws.Turn.{onward, turn-of}
 use Rattle.args.specs.Laws.Steps.{nearer}
-use Rattle.args.proofs.scans.fault_of.Statement.{statement}
-use Rattle.args.proofs.scans.fault_of.Tie as tie
+use Rattle.args.proofs.scans.refusal_of.Statement.{statement}
+use Rattle.args.proofs.scans.refusal_of.Tie as tie
 
 abbrev Inv-loop : tie.InvT-loop
-Inv-loop text cursor₀ cursor = gathered text .fault ≡ gathered (drop (cursor .at) text) .fault
+Inv-loop text cursor₀ cursor = gathered text .refusal ≡ gathered (drop (cursor .at) text) .refusal
 
 abbrev μ-loop : tie.MeasureT-loop
 μ-loop text cursor₀ cursor = length text - cursor .at
 
-turn : (c : tie.After-next Inv-loop μ-loop) → gathered (now (c .before .before .before .before .args .text)) .fault ≡ (onward (now (c .before .before .before .before .args .text)) (c .next .result .arg) (gathered (drop (c .next .result .cursor .at) (now (c .before .before .before .before .args .text))))) .fault
-turn c = c .before .loop .inv ∙ ap (λ (g : Gathered). g .fault) (turn-of (now (c .before .before .before .before .args .text)) (c .before .loop .cursor .at) (c .next .result) (c .next .ensures) .same)
+turn : (c : tie.After-next Inv-loop μ-loop) → gathered (now (c .before .before .before .before .args .text)) .refusal ≡ (onward (now (c .before .before .before .before .args .text)) (c .next .result .arg) (gathered (drop (c .next .result .cursor .at) (now (c .before .before .before .before .args .text))))) .refusal
+turn c = c .before .loop .inv ∙ ap (λ (g : Gathered). g .refusal) (turn-of (now (c .before .before .before .before .args .text)) (c .before .loop .cursor .at) (c .next .result) (c .next .ensures) .same)
 
 new-requires : tie.Need-new-requires Inv-loop μ-loop
 new-requires c κs = search needs
@@ -59,8 +59,8 @@ loop-less-2 c = nearer (now (c .before .before .before .before .before .before .
 loop-again-2 : tie.Need-loop-again-2 Inv-loop μ-loop
 loop-again-2 c = turn (c .before .before .before) ∙ rw (c .enum-told3 .given .1)
 
-pub fault-of-spec : {M : Type 1} → statement M
-fault-of-spec =
+pub refusal-of-spec : {M : Type 1} → statement M
+refusal-of-spec =
     tie.close
     (tie.spec
     Inv-loop
