@@ -1,6 +1,7 @@
 -- In order: Both (two tests), Kinds (what a float is), NotNan (results that are numbers), Order, Extremes, Sign, Values (a value that fits is its own rounding), Whole
 -- (comparison of whole numbers), Bounded (times and rates), Products, Magnitude, Signed and Transitive (either sign), Sums, Credit and Elapsed (the
--- bucket's bound), Digits, Limits (counters and lengths), Nearest (a rounding is the nearest value that fits), Decimals (a decimal's value).
+-- bucket's bound), Digits, Limits (counters and lengths), Nearest (a rounding is the nearest value that fits), Decimals (a decimal's value),
+-- Counted (the counted front of a list).
 pub mod Both
 pub mod Kinds
 pub mod NotNan
@@ -21,3 +22,4 @@ pub mod Digits
 pub mod Limits
 pub mod Nearest
 pub mod Decimals
+pub mod Counted

@@ -81,6 +81,10 @@ refusedEntries = 19
 abbrev pub refusedOtherMode : ℕ
 refusedOtherMode = 20
 
+-- "21 instant NaN, sign bit set or above 2^53"
+abbrev pub refusedInstant : ℕ
+refusedInstant = 21
+
 -- "22 length above 2,048"
 abbrev pub refusedLength : ℕ
 refusedLength = 22
@@ -88,3 +92,7 @@ refusedLength = 22
 -- "25 (every call) a counter (torn too) or next seq handed in is 2^60 or more"
 abbrev pub refusedCounter : ℕ
 refusedCounter = 25
+
+-- "29 settings with a NaN, a probability outside 0 to 1, a float time outside 0 to 999999999999999, ..."
+abbrev pub refusedSettings : ℕ
+refusedSettings = 29

@@ -60,8 +60,14 @@ pub const REFUSED_ENTRIES: u32 = 19;
 // An option of the other mode.
 pub const REFUSED_OTHER_MODE: u32 = 20;
 
+// An instant that is NaN, has its sign bit set or is above 2^53.
+pub const REFUSED_INSTANT: u32 = 21;
+
 // A length above the limit.
 pub const REFUSED_LENGTH: u32 = 22;
 
 // A counter that is 2^60 or more.
 pub const REFUSED_COUNTER: u32 = 25;
+
+// Settings of which one is out of its range.
+pub const REFUSED_SETTINGS: u32 = 29;

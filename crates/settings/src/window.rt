@@ -69,8 +69,10 @@ impl Window {
     pub fn contains(self, t_ms: f64) -> bool
         ensures { λ r. ⌜ r ≡ containsOf self «t_ms» ⌝ }
     {
-        let start = std::num::nearest_u64_to_f64(self.start_ms);
-        let end = std::num::nearest_u64_to_f64(self.end_ms);
-        if start <= t_ms { t_ms < end } else { false }
+        if numbers::float_of(self.start_ms) <= t_ms {
+            t_ms < numbers::float_of(self.end_ms)
+        } else {
+            false
+        }
     }
 }

@@ -1,0 +1,23 @@
+-- Two cases.
+use Rattle.steps.specs.Bucket.{isDeferredOf}
+use lib.Ieee.{ofInt, ofBits}
+use borrow.Author.Needs.{needs}
+use Rattle.steps.proofs.bucket.is_deferred.Statement.{statement}
+use Rattle.steps.proofs.bucket.is_deferred.Tie as tie
+
+enum-told : tie.Need-enum-told
+enum-told c = search needs
+
+enum-told-2 : tie.Need-enum-told-2
+enum-told-2 c = search needs
+
+returns : tie.Need-returns
+unfolding isDeferredOf ofInt ofBits
+returns c = rw (c .enum-told .given .1)
+
+returns-2 : tie.Need-returns-2
+unfolding isDeferredOf ofInt ofBits
+returns-2 c = rw (c .enum-told2 .given .1)
+
+pub is-deferred-spec : {M : Type 1} → statement M
+is-deferred-spec = tie.close (tie.spec enum-told enum-told-2 returns returns-2)

@@ -1,0 +1,2 @@
+-- Entries (the counted entries of a list of 128).
+pub mod Entries

@@ -1,0 +1,30 @@
+// What becomes of an arriving packet.
+ghost use mathlib.Core.Path.{_≡_};
+ghost use Rattle.steps.specs.Decision.{isDropOf};
+
+// It is dropped for a reason, or enqueued with its due and whether it is duplicated, or its connection is reset.
+pub enum Decision {
+    DropRandom,
+    DropGe,
+    DropMtu,
+    DropBlackout,
+    DropKillHold,
+    Enqueue(f64, bool),
+    KillRst,
+}
+
+impl Decision {
+    pub fn is_drop(self) -> bool
+        ensures { λ r. ⌜ r ≡ isDropOf self ⌝ }
+    {
+        match self {
+            Decision::DropRandom => true,
+            Decision::DropGe => true,
+            Decision::DropMtu => true,
+            Decision::DropBlackout => true,
+            Decision::DropKillHold => true,
+            Decision::Enqueue(_, _) => false,
+            Decision::KillRst => false,
+        }
+    }
+}

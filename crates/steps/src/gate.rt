@@ -1,0 +1,98 @@
+// What the windows of a direction say of an instant; of a list only the counted entries are meant.
+ghost use mathlib.Core.Path.{_≡_};
+ghost use mathlib.Core.Bool.{cond};
+ghost use lib.ListN.{take};
+ghost use Rattle.steps.specs.Gate.{isRstOf, styleGateOf, killGateOf, killNowOf, anyWindowOf};
+ghost use Rattle.steps.specs.Entries.{entryCountOf};
+use settings::KillStyle;
+use settings::TcpKill;
+use settings::Window;
+
+// No window stops a packet, or a kill resets or holds, or a blackout drops.
+pub enum Gate {
+    Open,
+    Reset,
+    Held,
+    Blackout,
+}
+
+// How many entries of a list are counted, at most all 128.
+fn entry_count(count: usize) -> usize
+    ensures { λ r. ⌜ r ≡ entryCountOf count ⌝ }
+{
+    if count < 128 { count } else { 128 }
+}
+
+fn style_gate(style: KillStyle) -> Gate
+    ensures { λ r. ⌜ r ≡ styleGateOf style ⌝ }
+{
+    match style {
+        KillStyle::Rst => Gate::Reset,
+        KillStyle::Hold => Gate::Held,
+    }
+}
+
+fn is_rst(style: KillStyle) -> bool
+    ensures { λ r. ⌜ r ≡ isRstOf style ⌝ }
+{
+    match style {
+        KillStyle::Rst => true,
+        KillStyle::Hold => false,
+    }
+}
+
+// The first kill whose window holds the instant decides.
+pub fn kill_gate(kills: [TcpKill; 128], count: usize, now_ms: f64) -> Gate
+    ensures { λ r. ⌜ r ≡ killGateOf (take count kills) «now_ms» ⌝ }
+{
+    let n = entry_count(count);
+    let mut i: usize = 0;
+    while i < n {
+        let kill = kills[i];
+        let window = kill.window;
+        if window.contains(now_ms) {
+            break;
+        }
+        i += 1;
+    }
+    if i < n {
+        let deciding = kills[i];
+        let style = deciding.style;
+        return style_gate(style);
+    }
+    Gate::Open
+}
+
+// Whether some kill of the style holds the instant: one that resets, or one that holds.
+pub fn kill_now(kills: [TcpKill; 128], count: usize, rst: bool, now_ms: f64) -> bool
+    ensures { λ r. ⌜ r ≡ killNowOf rst (take count kills) «now_ms» ⌝ }
+{
+    let n = entry_count(count);
+    let mut i: usize = 0;
+    while i < n {
+        let kill = kills[i];
+        let window = kill.window;
+        let style = kill.style;
+        if (is_rst(style) == rst) & window.contains(now_ms) {
+            return true;
+        }
+        i += 1;
+    }
+    false
+}
+
+// Whether some window holds the instant.
+pub fn any_window(windows: [Window; 128], count: usize, now_ms: f64) -> bool
+    ensures { λ r. ⌜ r ≡ anyWindowOf (take count windows) «now_ms» ⌝ }
+{
+    let n = entry_count(count);
+    let mut i: usize = 0;
+    while i < n {
+        let window = windows[i];
+        if window.contains(now_ms) {
+            return true;
+        }
+        i += 1;
+    }
+    false
+}
