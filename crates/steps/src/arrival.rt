@@ -60,7 +60,14 @@ fn scheduled(c: Scalars, s: ArrivalState, now_ms: f64, len: usize) -> Arrival
     ensures { λ r. ⌜ r ≡ scheduledOf c s «now_ms» len ⌝ }
 {
     let rate = c.rate_bps;
-    let tokens = bucket::charged(s.tokens, s.last_refill_ms, rate, c.rate_burst_bytes, now_ms, len);
+    let tokens = bucket::charged(
+        s.tokens,
+        s.last_refill_ms,
+        rate,
+        c.rate_burst_bytes,
+        now_ms,
+        len,
+    );
     let last_refill_ms = bucket::last_refill(s.last_refill_ms, rate, now_ms);
     let deferred = bucket::is_deferred(rate, tokens);
     let before = s.rng;

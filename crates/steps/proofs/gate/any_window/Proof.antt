@@ -48,8 +48,8 @@ contains-requires c κs = search needs
 -- one window on
 turn : (c : tie.After-contains Inv-loop μ-loop)
     → let from = c .before .before .before .before in
-      anyWindowOf (take (from .entry-count .result) (from .before .args .t1)) (from .before .args .now-ms)
-      ≡ (c .contains .result || anyWindowOf (drop (c .before .before .before .loop .i + 1) (take (from .entry-count .result) (from .before .args .t1))) (from .before .args .now-ms))
+    anyWindowOf (take (from .entry-count .result) (from .before .args .t1)) (from .before .args .now-ms)
+    ≡ (c .contains .result || anyWindowOf (drop (c .before .before .before .loop .i + 1) (take (from .entry-count .result) (from .before .args .t1))) (from .before .args .now-ms))
 unfolding anyWindowOf
 turn c =
     let at = c .before .before .before in

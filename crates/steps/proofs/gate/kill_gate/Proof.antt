@@ -54,9 +54,9 @@ contains-requires c κs = search needs
 -- one kill on, as the test of its window comes out
 turn : (c : tie.After-contains Inv-loop μ-loop) (b : Bool) → c .contains .result ≡ b
     → let from = c .before .before .before .before .before in
-      let i = c .before .before .before .before .loop .i in
-      killGateOf (take (from .entry-count .result) (from .before .args .t1)) (from .before .args .now-ms)
-      ≡ cond b (styleGateOf (getD (from .before .args .t1) i outside .style)) (killGateOf (drop (i + 1) (take (from .entry-count .result) (from .before .args .t1))) (from .before .args .now-ms))
+    let i = c .before .before .before .before .loop .i in
+    killGateOf (take (from .entry-count .result) (from .before .args .t1)) (from .before .args .now-ms)
+    ≡ cond b (styleGateOf (getD (from .before .args .t1) i outside .style)) (killGateOf (drop (i + 1) (take (from .entry-count .result) (from .before .args .t1))) (from .before .args .now-ms))
 unfolding killGateOf
 turn c b test =
     let at = c .before .before .before .before in
@@ -85,8 +85,8 @@ style-gate-requires c κs = search needs
 -- behind the loop either all counted kills are gone by, or the one at this place decides
 decided : (c : tie.Left-loop Inv-loop μ-loop)
     → let from = c .before .before in
-      let i = c .before .loop .i in
-      from .entry-count .result ≤ i ⊎ killGateOf (take (from .entry-count .result) (from .before .args .t1)) (from .before .args .now-ms) ≡ styleGateOf (getD (from .before .args .t1) i outside .style)
+    let i = c .before .loop .i in
+    from .entry-count .result ≤ i ⊎ killGateOf (take (from .entry-count .result) (from .before .args .t1)) (from .before .args .now-ms) ≡ styleGateOf (getD (from .before .args .t1) i outside .style)
 decided c =
     ⊎-elim (λ past. inl (past .left))
     (λ w. inr

@@ -56,8 +56,8 @@ contains-requires c κs = search needs
 -- one kill on
 turn : (c : tie.After-contains Inv-loop μ-loop)
     → let from = c .before .before .before .before .before .before in
-      killNowOf (from .before .args .rst) (take (from .entry-count .result) (from .before .args .t1)) (from .before .args .now-ms)
-      ≡ ((Bool·beq (c .before .is-rst .result) (from .before .args .rst) && c .contains .result) || killNowOf (from .before .args .rst) (drop (c .before .before .before .before .before .loop .i + 1) (take (from .entry-count .result) (from .before .args .t1))) (from .before .args .now-ms))
+    killNowOf (from .before .args .rst) (take (from .entry-count .result) (from .before .args .t1)) (from .before .args .now-ms)
+    ≡ ((Bool·beq (c .before .is-rst .result) (from .before .args .rst) && c .contains .result) || killNowOf (from .before .args .rst) (drop (c .before .before .before .before .before .loop .i + 1) (take (from .entry-count .result) (from .before .args .t1))) (from .before .args .now-ms))
 unfolding killNowOf
 turn c =
     let at = c .before .before .before .before .before in
