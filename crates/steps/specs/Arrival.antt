@@ -5,7 +5,7 @@ use lib.Ieee.{Float, binary64, add}
 use Rattle.draws.specs.declared.rng.Rng.{Rng}
 use Rattle.steps.specs.declared.arrival.Arrival.{Arrival}
 use Rattle.steps.specs.declared.arrival.ArrivalState.{ArrivalState}
-use Rattle.steps.specs.declared.arrival.Scalars.{Scalars}
+use Rattle.steps.specs.declared.arrival.DirectionScalars.{DirectionScalars}
 use Rattle.steps.specs.declared.decision.Decision.{Decision}
 use Rattle.steps.specs.declared.decision.Decision.the-variants.{DropRandom, DropGe, DropMtu, DropBlackout, DropKillHold, Enqueue, KillRst}
 use Rattle.steps.specs.declared.gate.Gate.{Gate}
@@ -25,7 +25,7 @@ abbrev pub drawnOf : ArrivalState → Rng → Bool → ArrivalState
 drawnOf s g bad = record { rng = g; «ge_bad» = bad; tokens = s .tokens; «last_refill_ms» = s .«last_refill_ms» }
 
 -- 7. bucket, 8. duplicate draw, 9. delay and jitter draw, 10. reorder draw, 11. debt
-unfoldable pub scheduledOf : Scalars → ArrivalState → Float → ℕ → Arrival
+unfoldable pub scheduledOf : DirectionScalars → ArrivalState → Float → ℕ → Arrival
 scheduledOf c s now len =
     let rate = c .«rate_bps» in
     let tokens = chargedOf (s .tokens) (s .«last_refill_ms») rate (c .«rate_burst_bytes») now len in
@@ -41,25 +41,25 @@ scheduledOf c s now len =
     }
 
 -- 6. MTU
-unfoldable pub mtuOf : Scalars → ArrivalState → Float → ℕ → Arrival
+unfoldable pub mtuOf : DirectionScalars → ArrivalState → Float → ℕ → Arrival
 mtuOf c s now len = cond (exceedsOf (c .mtu) len) (stoppedOf s DropMtu) (scheduledOf c s now len)
 
 -- 5. GE
-unfoldable pub geOf : Scalars → ArrivalState → Float → ℕ → Arrival
+unfoldable pub geOf : DirectionScalars → ArrivalState → Float → ℕ → Arrival
 geOf c s now len =
     let burst = burstOf (s .rng) (s .«ge_bad») (c .ge) in
     let after = drawnOf s (burst .rng) (burst .bad) in
     cond (burst .hit) (stoppedOf after DropGe) (mtuOf c after now len)
 
 -- 4. loss
-unfoldable pub passedOf : Scalars → ArrivalState → Float → ℕ → Arrival
+unfoldable pub passedOf : DirectionScalars → ArrivalState → Float → ℕ → Arrival
 passedOf c s now len =
     let loss = chanceOf (s .rng) (c .loss) in
     let after = drawnOf s (loss .rng) (s .«ge_bad») in
     cond (loss .hit) (stoppedOf after DropRandom) (geOf c after now len)
 
 -- 2. and 3. "rst gives KillRst, hold drops as blackout"
-unfoldable pub arrivedOf : Gate → Scalars → ArrivalState → Float → ℕ → Arrival
+unfoldable pub arrivedOf : Gate → DirectionScalars → ArrivalState → Float → ℕ → Arrival
 arrivedOf Open c s now len = passedOf c s now len
 arrivedOf Reset c s now len = stoppedOf s KillRst
 arrivedOf Held c s now len = stoppedOf s DropKillHold

@@ -14,7 +14,7 @@ use options::RateOption;
 use settings::GeOption;
 
 // The settings of a direction without its lists.
-pub struct Scalars {
+pub struct DirectionScalars {
     pub loss: f64,
     pub ge: GeOption,
     pub delay_ms: f64,
@@ -56,7 +56,7 @@ fn stopped(state: ArrivalState, decision: Decision) -> Arrival
 }
 
 // Steps 7 to 11.
-fn scheduled(c: Scalars, s: ArrivalState, now_ms: f64, len: usize) -> Arrival
+fn scheduled(c: DirectionScalars, s: ArrivalState, now_ms: f64, len: usize) -> Arrival
     ensures { λ r. ⌜ r ≡ scheduledOf c s «now_ms» len ⌝ }
 {
     let rate = c.rate_bps;
@@ -93,7 +93,7 @@ fn scheduled(c: Scalars, s: ArrivalState, now_ms: f64, len: usize) -> Arrival
 }
 
 // Steps 4 to 6, and then the rest.
-fn passed(c: Scalars, mut s: ArrivalState, now_ms: f64, len: usize) -> Arrival
+fn passed(c: DirectionScalars, mut s: ArrivalState, now_ms: f64, len: usize) -> Arrival
     ensures { λ r. ⌜ r ≡ passedOf c s «now_ms» len ⌝ }
 {
     let before = s.rng;
@@ -119,7 +119,7 @@ fn passed(c: Scalars, mut s: ArrivalState, now_ms: f64, len: usize) -> Arrival
 }
 
 // What becomes of an arrival, once the windows have been asked.
-pub fn arrived(gate: Gate, c: Scalars, s: ArrivalState, now_ms: f64, len: usize) -> Arrival
+pub fn arrived(gate: Gate, c: DirectionScalars, s: ArrivalState, now_ms: f64, len: usize) -> Arrival
     ensures { λ r. ⌜ r ≡ arrivedOf gate c s «now_ms» len ⌝ }
 {
     match gate {

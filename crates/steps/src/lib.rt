@@ -10,7 +10,7 @@ mod mtu;
 
 pub use arrival::Arrival;
 pub use arrival::ArrivalState;
-pub use arrival::Scalars;
+pub use arrival::DirectionScalars;
 pub use arrival::arrived;
 pub use bucket::bucket_capacity;
 pub use decision::Decision;

@@ -1,0 +1,27 @@
+-- The parts by their contracts.
+use Rattle.engine.specs.Decide.{decideUncheckedOf, afterOf}
+use Rattle.engine.specs.Engine.{stateOf}
+use borrow.Author.Needs.{needs}
+use Rattle.engine.proofs.engine.ArrivalEngine.decide_unchecked.Statement.{statement}
+use Rattle.engine.proofs.engine.ArrivalEngine.decide_unchecked.Tie as tie
+
+gate-at-requires : tie.Need-gate-at-requires
+gate-at-requires c κs = search needs
+
+scalars-requires : tie.Need-scalars-requires
+scalars-requires c κs = search needs
+
+arrived-requires : tie.Need-arrived-requires
+arrived-requires c κs = search needs
+
+counted-requires : tie.Need-counted-requires
+counted-requires c κs = search needs
+
+returns : tie.Need-returns
+unfolding decideUncheckedOf afterOf stateOf
+returns c = rw (c .counted .ensures, c .before .before .before .before .arrived .ensures, c .before .before .before .before .before .before .scalars .ensures, c .before .before .before .before .before .before .before .gate-at .ensures)
+
+pub decide-unchecked-spec : {M : Type 1} → statement M
+decide-unchecked-spec =
+    tie.close
+    (tie.spec gate-at-requires scalars-requires arrived-requires counted-requires returns)
