@@ -8,4 +8,5 @@ pub mod Decide
 pub mod Changes
 pub mod Refusals
 pub mod Calls
+pub mod Lines
 pub mod Laws
