@@ -45,7 +45,7 @@ pub record Credit (x : Float) : Type 0 where
 abbrev deepest : Float
 deepest = fin false 1 (pos debtPower)
 
-plus-credit : {x : Float} → T (fits binary64 x) → PlusFinite x → Credit x
+pub plus-credit : {x : Float} → T (fits binary64 x) → PlusFinite x → Credit x
 plus-credit h (plus-finite m e) = record { fit = h; finite = finite-fin false m e; floor = minus-le-plus 1 m (pos debtPower) e }
 
 minus-credit : {x : Float} → T (fits binary64 x) → PlusFinite x → T (le x deepest) → Credit (neg x)
