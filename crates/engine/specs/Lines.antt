@@ -1,7 +1,6 @@
 -- Document 01's starred lines about arrivals, as theorems about the definitions.
 use mathlib.Core.Path.{_≡_, refl}
 use mathlib.Core.Bool.{false}
-use Prim.Native.Nat.{ℕ}
 use lib.ListN.{replicate}
 use lib.Ieee.{Float, add, sub, mul, div, neg, lt, le, isNan, ofInt}
 use Rattle.numbers.specs.Digits.{decimalValue}

@@ -1,7 +1,6 @@
 -- A call that meets no refusal has passed every test.
 use mathlib.Core.Path.{_≡_, refl}
 use mathlib.Core.Bool.{Bool, true, false}
-use Prim.Native.Nat.{ℕ}
 use native.Mathlib.Omega.{arith}
 use Rattle.engine.specs.Refusals.{refusalOf}
 

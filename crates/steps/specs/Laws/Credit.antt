@@ -43,13 +43,16 @@ capacity-clear rate burst h k =
 pub full-credit : (rate : RateOption) (burst : ℕ) → isRate rate ≡ true → isBounded burst ≡ true → Credit (whole (bucketCapacityOf rate burst))
 full-credit rate burst h k = plus-credit (ofInt-fits binary64 (pos (bucketCapacityOf rate burst))) (capacity-clear rate burst h k)
 
--- the longest length that is planned is within the bound of a packet
-length-within : (len : ℕ) → len ≤ 9216 → T (le (whole len) longestPacket)
+-- the longest packet that is planned, in bytes
+abbrev pub longestPlanned : ℕ
+longestPlanned = 9216
+
+length-within : (len : ℕ) → len ≤ longestPlanned → T (le (whole len) longestPacket)
 unfolding ofInt
 length-within len h = rw (whole-le len (2 ^ 14) (omega arith) (lit≤ tt)) (le→leb len (2 ^ 14) (omega arith))
 
 -- a credit stays one
-pub charged-credit : {tokens last now : Float} (rate : RateOption) (burst len : ℕ) → isRate rate ≡ true → isBounded burst ≡ true → len ≤ 9216
+pub charged-credit : {tokens last now : Float} (rate : RateOption) (burst len : ℕ) → isRate rate ≡ true → isBounded burst ≡ true → len ≤ longestPlanned
     → Credit tokens → T (fits binary64 last) → Bounded last → T (fits binary64 now) → Bounded now → Credit (chargedOf tokens last rate burst now len)
 unfolding chargedOf refilledOf ofInt
 charged-credit Absent burst len h k s t lf l nf n = t

@@ -25,7 +25,7 @@ use Rattle.options.specs.declared.config.RateOption.{RateOption}
 use Rattle.options.specs.declared.config.RateOption.the-variants.{Absent, Present}
 use Rattle.steps.specs.declared.arrival.Arrival.{Arrival}
 use Rattle.steps.specs.declared.arrival.ArrivalState.{ArrivalState}
-use Rattle.steps.specs.declared.arrival.Scalars.{Scalars}
+use Rattle.steps.specs.declared.arrival.DirectionScalars.{DirectionScalars}
 use Rattle.steps.specs.declared.decision.Decision.{Decision}
 use Rattle.steps.specs.declared.decision.Decision.the-variants.{DropRandom, DropGe, DropMtu, DropBlackout, DropKillHold, Enqueue, KillRst}
 use Rattle.steps.specs.declared.due.Due.{Due}
@@ -37,10 +37,10 @@ use Rattle.steps.specs.Mtu.{exceedsOf}
 use Rattle.steps.specs.Bucket.{lastRefillOf}
 use Rattle.steps.specs.Due.{jitteredOf, reorderedOf, waitedOf, owedOf}
 use Rattle.steps.specs.Arrival.{stoppedOf, drawnOf, scheduledOf, mtuOf, geOf, passedOf, arrivedOf}
-use Rattle.steps.specs.Laws.Credit.{charged-credit, wait-clear}
+use Rattle.steps.specs.Laws.Credit.{longestPlanned, charged-credit, wait-clear}
 
 -- what refusal 29 lets through of the settings without their lists
-pub record SoundScalars (c : Scalars) : Type 0 where
+pub record SoundScalars (c : DirectionScalars) : Type 0 where
   pub delay : isTime (c .«delay_ms») ≡ true
   pub jitter : isTime (c .«jitter_ms») ≡ true
   pub reorder-delay : isTime (c .«reorder_delay_ms») ≡ true
@@ -132,7 +132,7 @@ module _ {now : Float} (fit : T (fits binary64 now)) (bounded : Bounded now) whe
 
   -- ---- the chain
 
-  module _ (c : Scalars) (len : ℕ) (sound : SoundScalars c) (short : len ≤ 9216) where
+  module _ (c : DirectionScalars) (len : ℕ) (sound : SoundScalars c) (short : len ≤ longestPlanned) where
     scheduled-sound : (s : ArrivalState) → SoundState s → Sound now (scheduledOf c s now len)
     unfolding scheduledOf
     scheduled-sound s h =
@@ -167,7 +167,7 @@ module _ {now : Float} (fit : T (fits binary64 now)) (bounded : Bounded now) whe
         let after = drawn-sound s (loss .rng) (s .«ge_bad») h in
         cond-has (Sound now) (loss .hit) (after, tt) (ge-sound _ after)
 
-pub arrived-sound : (g : Gate) (c : Scalars) (s : ArrivalState) (now : Float) (len : ℕ) → SoundScalars c → SoundState s → T (fits binary64 now) → Bounded now → len ≤ 9216
+pub arrived-sound : (g : Gate) (c : DirectionScalars) (s : ArrivalState) (now : Float) (len : ℕ) → SoundScalars c → SoundState s → T (fits binary64 now) → Bounded now → len ≤ longestPlanned
     → SoundState (arrivedOf g c s now len .state) × DueFrom now (arrivedOf g c s now len .decision)
 unfolding arrivedOf stoppedOf
 arrived-sound Open c s now len sound h fit bounded short = passed-sound fit bounded c len sound short s h
