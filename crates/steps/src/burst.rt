@@ -45,21 +45,21 @@ fn turned(bad: bool, flip: bool) -> bool
 }
 
 // In the bad state a draw against h says whether the packet is lost.
-fn lost(rng: Rng, bad: bool, h: f64) -> Burst
-    ensures { λ r. ⌜ r ≡ lostOf rng bad h ⌝ }
+fn lost(rng: Rng, now_bad: bool, h: f64) -> Burst
+    ensures { λ r. ⌜ r ≡ lostOf rng «now_bad» h ⌝ }
 {
-    if bad {
+    if now_bad {
         let drawn = rng.next_f64();
         let after = drawn.rng;
         Burst {
             rng: after,
-            bad,
+            bad: now_bad,
             hit: drawn.value < h,
         }
     } else {
         Burst {
             rng,
-            bad,
+            bad: now_bad,
             hit: false,
         }
     }
