@@ -1,12 +1,14 @@
 // The arrival engine of impair.rs: what becomes of each packet, bit for bit.
 mod answers;
-mod calls;
 mod counts;
 mod creation;
 mod decide;
 mod engine;
+mod overflow;
 mod parts;
+mod rebind;
 mod refusal;
+mod stalls;
 
 pub use answers::Arrived;
 pub use answers::BoolAnswer;

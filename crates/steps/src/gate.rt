@@ -1,12 +1,10 @@
-// What the windows of a direction say of an instant; of a list only the counted entries are meant.
+// What the kills of a direction say of an instant.
 ghost use mathlib.Core.Path.{_≡_};
-ghost use mathlib.Core.Bool.{cond};
 ghost use lib.ListN.{take};
-ghost use Rattle.steps.specs.Gate.{isRstOf, styleGateOf, killGateOf, killNowOf, anyWindowOf};
-ghost use Rattle.steps.specs.Entries.{entryCountOf};
+ghost use Rattle.steps.specs.Gate.{isRstOf, styleGateOf, killGateOf, killNowOf};
+use crate::entries::entry_count;
 use settings::KillStyle;
 use settings::TcpKill;
-use settings::Window;
 
 // No window stops a packet, or a kill resets or holds, or a blackout drops.
 pub enum Gate {
@@ -14,13 +12,6 @@ pub enum Gate {
     Reset,
     Held,
     Blackout,
-}
-
-// How many entries of a list are counted, at most all 128.
-fn entry_count(count: usize) -> usize
-    ensures { λ r. ⌜ r ≡ entryCountOf count ⌝ }
-{
-    if count < 128 { count } else { 128 }
 }
 
 fn style_gate(style: KillStyle) -> Gate
@@ -74,22 +65,6 @@ pub fn kill_now(kills: [TcpKill; 128], count: usize, rst: bool, now_ms: f64) -> 
         let window = kill.window;
         let style = kill.style;
         if (is_rst(style) == rst) & window.contains(now_ms) {
-            return true;
-        }
-        i += 1;
-    }
-    false
-}
-
-// Whether some window holds the instant.
-pub fn any_window(windows: [Window; 128], count: usize, now_ms: f64) -> bool
-    ensures { λ r. ⌜ r ≡ anyWindowOf (take count windows) «now_ms» ⌝ }
-{
-    let n = entry_count(count);
-    let mut i: usize = 0;
-    while i < n {
-        let window = windows[i];
-        if window.contains(now_ms) {
             return true;
         }
         i += 1;

@@ -1,8 +1,8 @@
 -- One comparison.
 use borrow.Author.Tests.{lt-ltb, le-ltb}
 use Rattle.steps.specs.Entries.{entryCountOf}
-use Rattle.steps.proofs.gate.entry_count.Statement.{statement}
-use Rattle.steps.proofs.gate.entry_count.Tie as tie
+use Rattle.steps.proofs.entries.entry_count.Statement.{statement}
+use Rattle.steps.proofs.entries.entry_count.Tie as tie
 
 returns : tie.Need-returns
 unfolding entryCountOf

@@ -11,8 +11,8 @@ use Rattle.settings.specs.Windows.{noWindow}
 use Rattle.settings.specs.declared.window.Window.{Window}
 use Rattle.steps.specs.Gate.{anyWindowOf}
 use Rattle.steps.specs.Laws.Entries.{entry-count-within, entry-count-takes}
-use Rattle.steps.proofs.gate.any_window.Statement.{statement}
-use Rattle.steps.proofs.gate.any_window.Tie as tie
+use Rattle.steps.proofs.blackouts.any_window.Statement.{statement}
+use Rattle.steps.proofs.blackouts.any_window.Tie as tie
 
 abbrev Inv-loop : tie.InvT-loop
 Inv-loop count now-ms windows n i₀ i = (i ≤ n) × (anyWindowOf (take n windows) now-ms ≡ anyWindowOf (drop i (take n windows)) now-ms)
