@@ -29,7 +29,7 @@ use Rattle.engine.specs.Calls.{newOf, decideOf}
 use Rattle.engine.specs.Counts.{oneIf, countsOf, countedOf}
 use Rattle.engine.specs.Decide.{afterOf, decideUncheckedOf}
 use Rattle.engine.specs.Engine.{nextRebindOf, freshOf, scalarsOf, stateOf, gateAtOf}
-use Rattle.engine.specs.Refusals.{refusalOf}
+use Rattle.engine.specs.Refusals.{refusalOf, judgedOf}
 use Rattle.engine.specs.declared.answers.DecideAnswer.the-variants.{Decided}
 use Rattle.engine.specs.declared.answers.Decided.{Decided as DecidedEngine}
 use Rattle.engine.specs.declared.engine.ArrivalEngine.{ArrivalEngine}
@@ -93,7 +93,7 @@ pub record ArrivalLines : Type 0 where
   pub still-in-debt : third .answer ≡ Decided (Enqueue (whole 500) false)
 
 pub arrival-lines : ArrivalLines
-unfolding newOf freshOf nextRebindOf rngOf noStats isSettingsOf decideOf refusalOf isInstantOf isLengthOf isCounterOf statsCounters latenciesOf
+unfolding newOf freshOf nextRebindOf rngOf noStats isSettingsOf decideOf judgedOf refusalOf isInstantOf isLengthOf isCounterOf statsCounters latenciesOf
     decideUncheckedOf afterOf countedOf countsOf oneIf scalarsOf stateOf gateAtOf gateOf killGateOf anyWindowOf
     arrivedOf passedOf geOf mtuOf scheduledOf stoppedOf chanceOf burstOf exceedsOf chargedOf refilledOf bucketCapacityOf rateCapacityOf lastRefillOf
     isDeferredOf jitteredOf reorderedOf owedOf waitedOf

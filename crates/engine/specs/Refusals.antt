@@ -18,12 +18,16 @@ refusalOf settings instant length counters =
 abbrev pub countersPass : ArrivalEngine → Bool
 countersPass e = isCounterOf (e .«rebinds_done») && areCounters (statsCounters (e .stats))
 
+-- what meets a call on an engine, whose instant and length pass or not
+unfoldable pub judgedOf : ArrivalEngine → Bool → Bool → ℕ
+judgedOf e instant length = refusalOf (isSettingsOf (e .cfg)) instant length (countersPass e)
+
 -- a call with an instant and a length, one with an instant, one with neither
 abbrev pub arrivalRefusal : ArrivalEngine → Float → ℕ → ℕ
-arrivalRefusal e now len = refusalOf (isSettingsOf (e .cfg)) (isInstantOf now) (isLengthOf len) (countersPass e)
+arrivalRefusal e now len = judgedOf e (isInstantOf now) (isLengthOf len)
 
 abbrev pub instantRefusal : ArrivalEngine → Float → ℕ
-instantRefusal e now = refusalOf (isSettingsOf (e .cfg)) (isInstantOf now) true (countersPass e)
+instantRefusal e now = judgedOf e (isInstantOf now) true
 
 abbrev pub plainRefusal : ArrivalEngine → ℕ
-plainRefusal e = refusalOf (isSettingsOf (e .cfg)) true true (countersPass e)
+plainRefusal e = judgedOf e true true

@@ -12,7 +12,6 @@ use crate::counts::counted;
 use crate::engine::ArrivalEngine;
 use crate::parts::gate_at;
 use crate::parts::scalars;
-use crate::refusal::refusal;
 use steps::ArrivalState;
 
 impl ArrivalEngine {
@@ -53,14 +52,7 @@ impl ArrivalEngine {
     pub fn decide(mut self, now_ms: f64, len: usize) -> Decided
         ensures { λ r. ⌜ r ≡ decideOf self «now_ms» len ⌝ }
     {
-        let settings = self.has_settings();
-        let counters = self.in_range();
-        let k = refusal(
-            settings,
-            numbers::is_instant(now_ms),
-            numbers::is_length(len),
-            counters,
-        );
+        let k = self.judged(numbers::is_instant(now_ms), numbers::is_length(len));
         if k != 0 {
             return Decided {
                 engine: self,

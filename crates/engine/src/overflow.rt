@@ -3,7 +3,6 @@ ghost use mathlib.Core.Path.{_≡_};
 ghost use Rattle.engine.specs.Calls.{statsIncOverflowOf};
 use crate::answers::Changed;
 use crate::engine::ArrivalEngine;
-use crate::refusal::refusal;
 use accounts::Outcome;
 
 impl ArrivalEngine {
@@ -11,9 +10,7 @@ impl ArrivalEngine {
     pub fn stats_inc_overflow(mut self) -> Changed
         ensures { λ r. ⌜ r ≡ statsIncOverflowOf self ⌝ }
     {
-        let settings = self.has_settings();
-        let counters = self.in_range();
-        let k = refusal(settings, true, true, counters);
+        let k = self.judged(true, true);
         if k != 0 {
             return Changed {
                 engine: self,

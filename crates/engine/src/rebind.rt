@@ -4,16 +4,13 @@ ghost use Rattle.engine.specs.Calls.{shouldRebindNowOf};
 use crate::answers::BoolAnswer;
 use crate::answers::Rebound;
 use crate::engine::ArrivalEngine;
-use crate::refusal::refusal;
 
 impl ArrivalEngine {
     // Whether the outbound socket is to be changed now, or a refusal by 29, 21 or 25.
     pub fn should_rebind_now(mut self, now_ms: f64) -> Rebound
         ensures { λ r. ⌜ r ≡ shouldRebindNowOf self «now_ms» ⌝ }
     {
-        let settings = self.has_settings();
-        let counters = self.in_range();
-        let k = refusal(settings, numbers::is_instant(now_ms), true, counters);
+        let k = self.judged(numbers::is_instant(now_ms), true);
         if k != 0 {
             return Rebound {
                 engine: self,

@@ -5,16 +5,13 @@ use crate::answers::BoolAnswer;
 use crate::engine::ArrivalEngine;
 use crate::parts::blackout_at;
 use crate::parts::kill_at;
-use crate::refusal::refusal;
 
 impl ArrivalEngine {
     // Whether a kill that resets holds the instant, or a refusal by 29, 21 or 25.
     pub fn rst_now(self, now_ms: f64) -> BoolAnswer
         ensures { λ r. ⌜ r ≡ rstNowOf self «now_ms» ⌝ }
     {
-        let settings = self.has_settings();
-        let counters = self.in_range();
-        let k = refusal(settings, numbers::is_instant(now_ms), true, counters);
+        let k = self.judged(numbers::is_instant(now_ms), true);
         if k != 0 {
             return BoolAnswer::Refused(k);
         }
@@ -26,9 +23,7 @@ impl ArrivalEngine {
     pub fn hold_now(self, now_ms: f64) -> BoolAnswer
         ensures { λ r. ⌜ r ≡ holdNowOf self «now_ms» ⌝ }
     {
-        let settings = self.has_settings();
-        let counters = self.in_range();
-        let k = refusal(settings, numbers::is_instant(now_ms), true, counters);
+        let k = self.judged(numbers::is_instant(now_ms), true);
         if k != 0 {
             return BoolAnswer::Refused(k);
         }

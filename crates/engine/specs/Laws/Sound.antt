@@ -9,6 +9,8 @@ use lib.IntN.{pos}
 use lib.Ieee.{Float, binary64, fits}
 use lib.Ieee.Bits.{is-true}
 use lib.Ieee.Fits.{ofInt-fits}
+use Rattle.numbers.specs.Instant.{isInstantOf}
+use Rattle.numbers.specs.Limits.{isLengthOf}
 use Rattle.numbers.specs.Laws.Both.{both-true}
 use Rattle.numbers.specs.Laws.Bounded.{Bounded, instant-bounded, whole-bounded}
 use Rattle.numbers.specs.Laws.Limits.{length-within}
@@ -97,7 +99,7 @@ unfolding decideOf
 decide-sound e now len s fit =
     cond-when (λ (d : DecidedEngine). SoundEngine (d .engine) × DueAnswered now (d .answer)) (eqb (arrivalRefusal e now len) 0)
     (λ t.
-    let ok = no-refusal _ _ _ _ (eqb→eq (arrivalRefusal e now len) 0 t) in
+    let ok = no-refusal e (isInstantOf now) (isLengthOf len) (eqb→eq (arrivalRefusal e now len) 0 t) in
     unchecked-sound e now len s (record { fit = fit; bounded = instant-bounded now (ok .instant-passes); short = omega (arith, length-within len (ok .length-passes)) }))
     (s, tt)
 

@@ -2,7 +2,7 @@
 use borrow.Author.Needs.{needs}
 use native.Mathlib.Omega.{arith}
 use mathlib.Core.Path.{_≡_, sym, ap, _∙_}
-use mathlib.Core.Bool.{Bool, _||_}
+use mathlib.Core.Bool.{_||_}
 use mathlib.Core.List.{List}
 use Prim.Native.Nat.{_+_, _-_, _≤_}
 use lib.ListN.{length, take, drop}
@@ -10,7 +10,7 @@ use Rattle.numbers.specs.Laws.Counted.{counted-step, counted-end}
 use Rattle.settings.specs.Windows.{noWindow}
 use Rattle.settings.specs.declared.window.Window.{Window}
 use Rattle.steps.specs.Gate.{anyWindowOf}
-use Rattle.steps.specs.Laws.Entries.{entry-count-within, entry-count-takes}
+use Rattle.steps.specs.Laws.Entries.{CountedEntries, counted-entries}
 use Rattle.steps.proofs.blackouts.any_window.Statement.{statement}
 use Rattle.steps.proofs.blackouts.any_window.Tie as tie
 
@@ -23,24 +23,20 @@ abbrev μ-loop : tie.MeasureT-loop
 entry-count-requires : tie.Need-entry-count-requires Inv-loop μ-loop
 entry-count-requires c κs = search needs
 
-within : (c : tie.After-entry-count Inv-loop μ-loop) → c .entry-count .result ≤ 128
-within c = rw (c .entry-count .ensures) (entry-count-within (c .before .args .count))
-
-many : (c : tie.Start Inv-loop μ-loop) → length (c .args .t1) ≡ 128
-many c = search (c .good)
-
 -- the entries that the loop goes over are the counted ones
-counted : (c : tie.After-entry-count Inv-loop μ-loop) → take (c .entry-count .result) (c .before .args .t1) ≡ take (c .before .args .count) (c .before .args .t1)
-counted c = rw (c .entry-count .ensures) (entry-count-takes (c .before .args .t1) (c .before .args .count) (many (c .before)))
+entries : (c : tie.After-entry-count Inv-loop μ-loop) → CountedEntries (c .before .args .t1) (c .before .args .count) (c .entry-count .result)
+entries c =
+    let many : length (c .before .args .t1) ≡ 128 = search (c .before .good) in
+    counted-entries (c .before .args .t1) (c .before .args .count) (c .entry-count .result) many (c .entry-count .ensures)
 
 loop-holds : tie.Need-loop-holds Inv-loop μ-loop
 loop-holds c = search needs
 
 mul-window : tie.Need-mul-window Inv-loop μ-loop
-mul-window c = omega (arith, within (c .before .before), c .loop-test .taken)
+mul-window c = omega (arith, entries (c .before .before) .within, c .loop-test .taken)
 
 array-copy-out-window : tie.Need-array-copy-out-window Inv-loop μ-loop
-array-copy-out-window c = omega (arith, within (c .before .before), c .loop-test .taken)
+array-copy-out-window c = omega (arith, entries (c .before .before) .within, c .loop-test .taken)
 
 contains-requires : tie.Need-contains-requires Inv-loop μ-loop
 contains-requires c κs = search needs
@@ -54,14 +50,14 @@ unfolding anyWindowOf
 turn c =
     let at = c .before .before .before in
     let from = at .before in
-    let step = counted-step (from .before .args .t1) (from .entry-count .result) (at .loop .i) noWindow (c .before .before .loop-test .taken) (omega (arith, many (from .before), within from)) in
+    let step = counted-step (from .before .args .t1) (from .entry-count .result) (at .loop .i) noWindow (c .before .before .loop-test .taken) (entries from .short) in
     at .loop .inv .1 ∙ ap (λ (l : List Window). anyWindowOf l (from .before .args .now-ms)) step ∙ rw (← (c .contains .ensures))
 
 returns : tie.Need-returns Inv-loop μ-loop
-returns c = let from = c .before .before .before .before .before in sym (rw (← (counted from)) (turn (c .before) ∙ rw (c .if1 .taken)))
+returns c = let from = c .before .before .before .before .before in sym (rw (← (entries from .takes)) (turn (c .before) ∙ rw (c .if1 .taken)))
 
 add-i : tie.Need-add-i Inv-loop μ-loop
-add-i c = omega (arith, within (c .before .before .before .before .before), c .before .before .before .loop-test .taken)
+add-i c = omega (arith, entries (c .before .before .before .before .before) .within, c .before .before .before .loop-test .taken)
 
 loop-less : tie.Need-loop-less Inv-loop μ-loop
 loop-less c = search needs
@@ -75,7 +71,7 @@ returns-2 c =
     let at = c .before in
     let from = at .before in
     let past = counted-end (from .before .args .t1) (from .entry-count .result) (at .loop .i) (c .loop-test .left) in
-    sym (rw (← (counted from)) (at .loop .inv .1 ∙ ap (λ (l : List Window). anyWindowOf l (from .before .args .now-ms)) past))
+    sym (rw (← (entries from .takes)) (at .loop .inv .1 ∙ ap (λ (l : List Window). anyWindowOf l (from .before .args .now-ms)) past))
 
 pub any-window-spec : {M : Type 1} → statement M
 any-window-spec =

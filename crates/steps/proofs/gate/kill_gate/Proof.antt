@@ -12,7 +12,7 @@ use Rattle.settings.specs.Windows.{noWindow}
 use Rattle.settings.specs.declared.kill.KillStyle.the-variants.{Rst}
 use Rattle.settings.specs.declared.kill.TcpKill.{TcpKill}
 use Rattle.steps.specs.Gate.{styleGateOf, killGateOf}
-use Rattle.steps.specs.Laws.Entries.{entry-count-within, entry-count-takes}
+use Rattle.steps.specs.Laws.Entries.{CountedEntries, counted-entries}
 use Rattle.steps.proofs.gate.kill_gate.Statement.{statement}
 use Rattle.steps.proofs.gate.kill_gate.Tie as tie
 
@@ -29,24 +29,20 @@ abbrev μ-loop : tie.MeasureT-loop
 entry-count-requires : tie.Need-entry-count-requires Inv-loop μ-loop
 entry-count-requires c κs = search needs
 
-within : (c : tie.After-entry-count Inv-loop μ-loop) → c .entry-count .result ≤ 128
-within c = rw (c .entry-count .ensures) (entry-count-within (c .before .args .count))
-
-many : (c : tie.Start Inv-loop μ-loop) → length (c .args .t1) ≡ 128
-many c = search (c .good)
-
 -- the entries that the loop goes over are the counted ones
-counted : (c : tie.After-entry-count Inv-loop μ-loop) → take (c .entry-count .result) (c .before .args .t1) ≡ take (c .before .args .count) (c .before .args .t1)
-counted c = rw (c .entry-count .ensures) (entry-count-takes (c .before .args .t1) (c .before .args .count) (many (c .before)))
+entries : (c : tie.After-entry-count Inv-loop μ-loop) → CountedEntries (c .before .args .t1) (c .before .args .count) (c .entry-count .result)
+entries c =
+    let many : length (c .before .args .t1) ≡ 128 = search (c .before .good) in
+    counted-entries (c .before .args .t1) (c .before .args .count) (c .entry-count .result) many (c .entry-count .ensures)
 
 loop-holds : tie.Need-loop-holds Inv-loop μ-loop
 loop-holds c = search needs
 
 mul-kill : tie.Need-mul-kill Inv-loop μ-loop
-mul-kill c = omega (arith, within (c .before .before), c .loop-test .taken)
+mul-kill c = omega (arith, entries (c .before .before) .within, c .loop-test .taken)
 
 array-copy-out-kill : tie.Need-array-copy-out-kill Inv-loop μ-loop
-array-copy-out-kill c = omega (arith, within (c .before .before), c .loop-test .taken)
+array-copy-out-kill c = omega (arith, entries (c .before .before) .within, c .loop-test .taken)
 
 contains-requires : tie.Need-contains-requires Inv-loop μ-loop
 contains-requires c κs = search needs
@@ -61,11 +57,11 @@ unfolding killGateOf
 turn c b test =
     let at = c .before .before .before .before in
     let from = at .before in
-    let step = counted-step (from .before .args .t1) (from .entry-count .result) (at .loop .i) outside (c .before .before .before .loop-test .taken) (omega (arith, many (from .before), within from)) in
+    let step = counted-step (from .before .args .t1) (from .entry-count .result) (at .loop .i) outside (c .before .before .before .loop-test .taken) (entries from .short) in
     at .loop .inv .1 ∙ ap (λ (l : List TcpKill). killGateOf l (from .before .args .now-ms)) step ∙ rw (← (c .contains .ensures), test)
 
 add-i : tie.Need-add-i Inv-loop μ-loop
-add-i c = omega (arith, within (c .before .before .before .before .before .before), c .before .before .before .before .loop-test .taken)
+add-i c = omega (arith, entries (c .before .before .before .before .before .before) .within, c .before .before .before .before .loop-test .taken)
 
 loop-less : tie.Need-loop-less Inv-loop μ-loop
 loop-less c = search needs
@@ -74,10 +70,10 @@ loop-again : tie.Need-loop-again Inv-loop μ-loop
 loop-again c = (search needs, turn (c .before) false (c .if1 .left))
 
 mul-deciding : tie.Need-mul-deciding Inv-loop μ-loop
-mul-deciding c = omega (arith, within (c .before .before .before), c .if2 .taken)
+mul-deciding c = omega (arith, entries (c .before .before .before) .within, c .if2 .taken)
 
 array-copy-out-deciding : tie.Need-array-copy-out-deciding Inv-loop μ-loop
-array-copy-out-deciding c = omega (arith, within (c .before .before .before), c .if2 .taken)
+array-copy-out-deciding c = omega (arith, entries (c .before .before .before) .within, c .if2 .taken)
 
 style-gate-requires : tie.Need-style-gate-requires Inv-loop μ-loop
 style-gate-requires c κs = search needs
@@ -101,7 +97,7 @@ returns c =
     let left = c .before .before .before in
     let test = c .before .before .if2 .taken in
     let from = left .before .before in
-    ⊎-elim (λ past. absurd (omega (arith, past, test))) (λ is. c .style-gate .ensures ∙ sym (rw (← (counted from)) is)) (decided left)
+    ⊎-elim (λ past. absurd (omega (arith, past, test))) (λ is. c .style-gate .ensures ∙ sym (rw (← (entries from .takes)) is)) (decided left)
 
 returns-2 : tie.Need-returns-2 Inv-loop μ-loop
 unfolding killGateOf
@@ -109,7 +105,7 @@ returns-2 c =
     let at = c .before .before in
     let from = at .before in
     let past = counted-end (from .before .args .t1) (from .entry-count .result) (at .loop .i) (c .if2 .left) in
-    sym (rw (← (counted from)) (at .loop .inv .1 ∙ ap (λ (l : List TcpKill). killGateOf l (from .before .args .now-ms)) past))
+    sym (rw (← (entries from .takes)) (at .loop .inv .1 ∙ ap (λ (l : List TcpKill). killGateOf l (from .before .args .now-ms)) past))
 
 pub kill-gate-spec : {M : Type 1} → statement M
 kill-gate-spec =

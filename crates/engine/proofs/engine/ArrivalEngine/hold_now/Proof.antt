@@ -1,31 +1,19 @@
 -- Refused, or the scans of the kills and the blackouts.
 use borrow.Author.Tests.{eq-eqb, ne-eqb}
-use mathlib.Core.Path.{_≡_, _∙_}
-use Rattle.engine.specs.Refusals.{instantRefusal}
 use Rattle.engine.specs.Calls.{holdNowOf}
 use borrow.Author.Needs.{needs}
 use Rattle.engine.proofs.engine.ArrivalEngine.hold_now.Statement.{statement}
 use Rattle.engine.proofs.engine.ArrivalEngine.hold_now.Tie as tie
 
-has-settings-requires : tie.Need-has-settings-requires
-has-settings-requires c κs = search needs
-
-in-range-requires : tie.Need-in-range-requires
-in-range-requires c κs = search needs
-
 is-instant-requires : tie.Need-is-instant-requires
 is-instant-requires c κs = search needs
 
-refusal-requires : tie.Need-refusal-requires
-refusal-requires c κs = search needs
-
--- the refusal of this call
-judged : (c : tie.After-refusal) → c .refusal .result ≡ instantRefusal (c .before .before .before .before .args .self) (c .before .before .before .before .args .now-ms)
-judged c = c .refusal .ensures ∙ rw (c .before .is-instant .ensures, c .before .before .in-range .ensures, c .before .before .before .has-settings .ensures)
+judged-requires : tie.Need-judged-requires
+judged-requires c κs = search needs
 
 returns : tie.Need-returns
 unfolding holdNowOf
-returns c = rw (← (judged (c .before)), ne-eqb _ _ (c .if1 .taken))
+returns c = rw (← (c .before .before .is-instant .ensures), ← (c .before .judged .ensures), ne-eqb _ _ (c .if1 .taken))
 
 kill-at-requires : tie.Need-kill-at-requires
 kill-at-requires c κs = search needs
@@ -35,16 +23,14 @@ blackout-at-requires c κs = search needs
 
 returns-2 : tie.Need-returns-2
 unfolding holdNowOf
-returns-2 c = rw (← (judged (c .before .before .before .before)), eq-eqb _ _ (c .before .before .before .if1 .left), c .blackout-at .ensures, c .before .kill-at .ensures)
+returns-2 c = rw (← (c .before .before .before .before .before .is-instant .ensures), ← (c .before .before .before .before .judged .ensures), eq-eqb _ _ (c .before .before .before .if1 .left), c .blackout-at .ensures, c .before .kill-at .ensures)
 
 pub hold-now-spec : {M : Type 1} → statement M
 hold-now-spec =
     tie.close
     (tie.spec
-    has-settings-requires
-    in-range-requires
     is-instant-requires
-    refusal-requires
+    judged-requires
     returns
     kill-at-requires
     blackout-at-requires
