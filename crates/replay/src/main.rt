@@ -1,16 +1,11 @@
 // Reads a script from standard input and prints an answer line for each of its lines.
-mod answers;
 mod calls;
-mod chunks;
-mod hex;
 mod input;
-mod lines;
 mod options_line;
-mod parts;
 mod settings_text;
 mod words;
 
-// The buffers are lent from here. That for lines has an even length, as lines::Beyond asks; that for an option text is
+// The buffers are lent from here. That for lines has an even length, as script::Beyond asks; that for an option text is
 // above the 16,384 bytes that a text may have, so a text that is too long is lent as one that is too long.
 fn main() {
     let mut chunk = io::large_buffer();

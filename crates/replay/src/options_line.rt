@@ -1,18 +1,13 @@
 // The line `options HEX`: the option text is read, and the settings or the refusal are printed.
-use crate::answers;
-use crate::hex;
-use crate::hex::Decoded;
-use crate::lines;
-use crate::lines::Beyond;
 use crate::settings_text;
 use options::Outcome;
+use script::Beyond;
+use script::Decoded;
+use script::answers;
 
-// `rest` is what is kept of the line behind its first word, and `beyond` what follows.
-pub fn answer(out: &mut [u8], at: usize, rest: &[u8], beyond: Beyond, text: &mut [u8]) -> usize {
-    if rest.len() == 0 || !lines::is_paired(beyond) {
-        return answers::bad_line(out, at);
-    }
-    match hex::decode(&rest[1..], text) {
+// `line` is what is kept of the line, and `beyond` what follows.
+pub fn answer(out: &mut [u8], at: usize, line: &[u8], beyond: Beyond, text: &mut [u8]) -> usize {
+    match script::text_of(line, beyond, text) {
         Decoded::Bytes(n) => parsed(out, at, values::front(text, n)),
         Decoded::Wrong => answers::bad_line(out, at),
     }

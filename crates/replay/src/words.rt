@@ -1,4 +1,4 @@
-// The words of a line, which single blanks part.
+// The words that a line begins with.
 ghost use mathlib.Core.Path.{_≡_};
 ghost use Rattle.replay.specs.Words.{callOf};
 

@@ -1,0 +1,17 @@
+// Answers that more than one program gives. `out` and `at` are those of output::collected.
+use output::collected;
+
+pub fn bad_line(out: &mut [u8], at: usize) -> usize {
+    collected::text(out, at, b"bad line")
+}
+
+pub fn refused(out: &mut [u8], at: usize, n: u32) -> usize {
+    let end = collected::text(out, at, b"refused ");
+    collected::decimal(out, end, n as u64)
+}
+
+// Writes what is collected; nothing is left.
+pub fn written(out: &[u8], at: usize) -> usize {
+    collected::flush(out, at);
+    0
+}
