@@ -1,0 +1,107 @@
+// What a line asks for, with its numbers.
+use crate::words;
+use crate::words::Call;
+use script::Beyond;
+use script::Pattern;
+use values::Whole;
+
+// A call with its numbers: instants by their bits; of an engine whether it is that of c2s, and the seed.
+pub enum Request {
+    Options,
+    Engine(bool, u64),
+    Decide(u64, u64),
+    Rebind(u64),
+    Rst(u64),
+    Hold(u64),
+    Overflow,
+    Stats,
+    Bad,
+}
+
+// `line` is what is kept of the line, and `beyond` what follows: only an option text may be longer than what is kept.
+pub fn request_of(line: &[u8], beyond: Beyond) -> Request {
+    match words::call_named(script::first_word(line)) {
+        Call::Options => Request::Options,
+        call => {
+            if script::is_complete(beyond) {
+                complete(line, call)
+            } else {
+                Request::Bad
+            }
+        }
+    }
+}
+
+// What a line asks for that is kept whole.
+fn complete(line: &[u8], call: Call) -> Request {
+    let rest = script::rest(line);
+    match call {
+        Call::Options => Request::Options,
+        Call::Engine => new_engine(rest),
+        Call::Decide => arrival(rest),
+        Call::Rebind => rebind(rest),
+        Call::Rst => rst(rest),
+        Call::Hold => hold(rest),
+        Call::Overflow => alone(line, Request::Overflow),
+        Call::Stats => alone(line, Request::Stats),
+        Call::Unknown => Request::Bad,
+    }
+}
+
+// A direction and a seed.
+fn new_engine(rest: &[u8]) -> Request {
+    let direction = script::first_word(rest);
+    match values::parse_u64(script::rest(rest)) {
+        Whole::Number(seed) => {
+            if values::is_same(direction, b"c2s") {
+                Request::Engine(true, seed)
+            } else if values::is_same(direction, b"s2c") {
+                Request::Engine(false, seed)
+            } else {
+                Request::Bad
+            }
+        }
+        Whole::Refused(_) => Request::Bad,
+    }
+}
+
+// An instant and a length.
+fn arrival(rest: &[u8]) -> Request {
+    match script::pattern_of(script::first_word(rest)) {
+        Pattern::Bits(now) => match values::parse_u64(script::rest(rest)) {
+            Whole::Number(len) => Request::Decide(now, len),
+            Whole::Refused(_) => Request::Bad,
+        },
+        Pattern::Wrong => Request::Bad,
+    }
+}
+
+fn rebind(digits: &[u8]) -> Request {
+    match script::pattern_of(digits) {
+        Pattern::Bits(now) => Request::Rebind(now),
+        Pattern::Wrong => Request::Bad,
+    }
+}
+
+fn rst(digits: &[u8]) -> Request {
+    match script::pattern_of(digits) {
+        Pattern::Bits(now) => Request::Rst(now),
+        Pattern::Wrong => Request::Bad,
+    }
+}
+
+fn hold(digits: &[u8]) -> Request {
+    match script::pattern_of(digits) {
+        Pattern::Bits(now) => Request::Hold(now),
+        Pattern::Wrong => Request::Bad,
+    }
+}
+
+// A request whose line has one word.
+fn alone(line: &[u8], request: Request) -> Request {
+    if script::goes_on(line) {
+        Request::Bad
+    } else {
+        request
+    }
+}

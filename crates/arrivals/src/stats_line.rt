@@ -1,0 +1,59 @@
+// The lines `o` and `s`: a drop at a full queue is counted, and the statistics are printed.
+use crate::state::State;
+use accounts::DirectionStats;
+use accounts::Outcome;
+use output::collected;
+use script::answers;
+
+pub fn overflow(out: &mut [u8], mut s: State) -> State {
+    let engine = s.engine;
+    let changed = engine.stats_inc_overflow();
+    let outcome = changed.outcome;
+    let moved = changed.engine;
+    s.engine = moved;
+    s.at = outcome_text(out, s.at, outcome);
+    s
+}
+
+fn outcome_text(out: &mut [u8], at: usize, outcome: Outcome) -> usize {
+    match outcome {
+        Outcome::Done => collected::text(out, at, b"overflow"),
+        Outcome::Refused(n) => answers::refused(out, at, n),
+    }
+}
+
+pub fn answer(out: &mut [u8], mut s: State) -> State {
+    let engine = s.engine;
+    let stats = engine.stats;
+    let mut end = collected::text(out, s.at, b"stats");
+    end = received(out, end, stats);
+    end = drops(out, end, stats);
+    s.at = others(out, end, stats);
+    s
+}
+
+fn received(out: &mut [u8], at: usize, stats: DirectionStats) -> usize {
+    let end = count(out, at, stats.received_pkts);
+    count(out, end, stats.received_bytes)
+}
+
+fn drops(out: &mut [u8], at: usize, stats: DirectionStats) -> usize {
+    let mut end = count(out, at, stats.dropped_random);
+    end = count(out, end, stats.dropped_ge);
+    end = count(out, end, stats.dropped_mtu);
+    end = count(out, end, stats.dropped_blackout);
+    count(out, end, stats.dropped_overflow)
+}
+
+fn others(out: &mut [u8], at: usize, stats: DirectionStats) -> usize {
+    let mut end = count(out, at, stats.duplicates);
+    end = count(out, end, stats.reorder_hits);
+    end = count(out, end, stats.rate_deferred);
+    count(out, end, stats.nat_rebinds)
+}
+
+// A blank and the number in decimal.
+fn count(out: &mut [u8], at: usize, n: u64) -> usize {
+    let blank = collected::text(out, at, b" ");
+    collected::decimal(out, blank, n)
+}

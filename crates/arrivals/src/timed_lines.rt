@@ -1,0 +1,37 @@
+// The lines `b NOW`, `k NOW` and `h NOW`: what an engine says at an instant.
+use crate::state::State;
+use engine::BoolAnswer;
+use output::collected;
+use script::answers;
+
+pub fn rebind(out: &mut [u8], mut s: State, now: u64) -> State {
+    let engine = s.engine;
+    let rebound = engine.should_rebind_now(script::float_of(now));
+    let moved = rebound.engine;
+    let answer = rebound.answer;
+    s.engine = moved;
+    s.at = answer_text(out, s.at, b"rebind ", answer);
+    s
+}
+
+pub fn rst(out: &mut [u8], mut s: State, now: u64) -> State {
+    let engine = s.engine;
+    s.at = answer_text(out, s.at, b"rst ", engine.rst_now(script::float_of(now)));
+    s
+}
+
+pub fn hold(out: &mut [u8], mut s: State, now: u64) -> State {
+    let engine = s.engine;
+    s.at = answer_text(out, s.at, b"hold ", engine.hold_now(script::float_of(now)));
+    s
+}
+
+fn answer_text(out: &mut [u8], at: usize, word: &[u8], answer: BoolAnswer) -> usize {
+    match answer {
+        BoolAnswer::Said(yes) => {
+            let end = collected::text(out, at, word);
+            collected::decimal(out, end, yes as u64)
+        }
+        BoolAnswer::Refused(n) => answers::refused(out, at, n),
+    }
+}
