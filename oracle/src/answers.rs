@@ -16,7 +16,7 @@ pub fn answer(line: &[u8]) -> String {
 }
 
 // The settings of a text, or the number of its refusal.
-fn settings_of(text: &[u8]) -> Result<Config, u32> {
+pub fn settings_of(text: &[u8]) -> Result<Config, u32> {
     if text.len() > MOST_BYTES {
         return Err(1);
     }

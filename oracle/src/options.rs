@@ -11,13 +11,13 @@ mod long_texts;
 mod refusals;
 mod script;
 mod split_mix;
+mod streams;
 mod texts;
 mod values;
 mod well_formed;
 
 use split_mix::SplitMix;
-use std::collections::BTreeMap;
-use std::io::{self, BufRead, BufWriter, Write};
+use std::io::{self, BufWriter, Write};
 
 fn make(seed: u64, count: u64, out: &mut impl Write) -> io::Result<()> {
     let mut r = SplitMix(seed);
@@ -27,26 +27,11 @@ fn make(seed: u64, count: u64, out: &mut impl Write) -> io::Result<()> {
     Ok(())
 }
 
-// The lines of the input, each without the byte 10 that ends it.
-fn lines() -> impl Iterator<Item = Vec<u8>> {
-    io::stdin().lock().split(b'\n').map(|line| line.expect("the input can be read"))
-}
-
 // The kind of an answer: its first word, with the number of a refusal, which sorts by its size.
 fn kind(answer: &str) -> String {
     match answer.strip_prefix("refused ") {
         Some(number) => format!("refused {number:>2}"),
         None => answer.split(' ').next().unwrap_or_default().to_string(),
-    }
-}
-
-fn count() {
-    let mut kinds: BTreeMap<String, u64> = BTreeMap::new();
-    for line in lines() {
-        *kinds.entry(kind(&String::from_utf8_lossy(&line))).or_default() += 1;
-    }
-    for (kind, number) in kinds {
-        eprintln!("{kind}: {number}");
     }
 }
 
@@ -61,11 +46,11 @@ fn main() -> io::Result<()> {
         }
         ["fixed"] => fixed::script(&mut out)?,
         ["answer"] => {
-            for line in lines() {
+            for line in streams::lines() {
                 writeln!(out, "{}", answers::answer(&line))?;
             }
         }
-        ["count"] => count(),
+        ["count"] => streams::count(streams::lines().map(|line| (kind(&String::from_utf8_lossy(&line)), 1))),
         _ => panic!("options make SEED COUNT, fixed, answer or count"),
     }
     out.flush()
