@@ -1,5 +1,6 @@
 // What a line asks for, with its numbers.
 use crate::words;
+use crate::words::Asked;
 use crate::words::Call;
 use script::Beyond;
 use script::Pattern;
@@ -10,9 +11,7 @@ pub enum Request {
     Options,
     Engine(bool, u64),
     Decide(u64, u64),
-    Rebind(u64),
-    Rst(u64),
-    Hold(u64),
+    Timed(Asked, u64),
     Overflow,
     Stats,
     Bad,
@@ -20,28 +19,12 @@ pub enum Request {
 
 // `line` is what is kept of the line, and `beyond` what follows: only an option text may be longer than what is kept.
 pub fn request_of(line: &[u8], beyond: Beyond) -> Request {
+    let rest = script::rest(line);
     match words::call_named(script::first_word(line)) {
         Call::Options => Request::Options,
-        call => {
-            if script::is_complete(beyond) {
-                complete(line, call)
-            } else {
-                Request::Bad
-            }
-        }
-    }
-}
-
-// What a line asks for that is kept whole.
-fn complete(line: &[u8], call: Call) -> Request {
-    let rest = script::rest(line);
-    match call {
-        Call::Options => Request::Options,
-        Call::Engine => new_engine(rest),
-        Call::Decide => arrival(rest),
-        Call::Rebind => rebind(rest),
-        Call::Rst => rst(rest),
-        Call::Hold => hold(rest),
+        Call::Engine => whole(beyond, new_engine(rest)),
+        Call::Decide => whole(beyond, arrival(rest)),
+        Call::Timed(asked) => timed(asked, rest),
         Call::Overflow => alone(line, Request::Overflow),
         Call::Stats => alone(line, Request::Stats),
         Call::Unknown => Request::Bad,
@@ -76,23 +59,10 @@ fn arrival(rest: &[u8]) -> Request {
     }
 }
 
-fn rebind(digits: &[u8]) -> Request {
+// An instant alone.
+fn timed(asked: Asked, digits: &[u8]) -> Request {
     match script::pattern_of(digits) {
-        Pattern::Bits(now) => Request::Rebind(now),
-        Pattern::Wrong => Request::Bad,
-    }
-}
-
-fn rst(digits: &[u8]) -> Request {
-    match script::pattern_of(digits) {
-        Pattern::Bits(now) => Request::Rst(now),
-        Pattern::Wrong => Request::Bad,
-    }
-}
-
-fn hold(digits: &[u8]) -> Request {
-    match script::pattern_of(digits) {
-        Pattern::Bits(now) => Request::Hold(now),
+        Pattern::Bits(now) => Request::Timed(asked, now),
         Pattern::Wrong => Request::Bad,
     }
 }
@@ -103,5 +73,14 @@ fn alone(line: &[u8], request: Request) -> Request {
         Request::Bad
     } else {
         request
+    }
+}
+
+// A request whose line ends in a number, which must be kept whole.
+fn whole(beyond: Beyond, request: Request) -> Request {
+    if script::is_complete(beyond) {
+        request
+    } else {
+        Request::Bad
     }
 }

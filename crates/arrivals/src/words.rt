@@ -5,12 +5,17 @@ pub enum Call {
     Options,
     Engine,
     Decide,
-    Rebind,
-    Rst,
-    Hold,
+    Timed(Asked),
     Overflow,
     Stats,
     Unknown,
+}
+
+// What an engine is asked at an instant.
+pub enum Asked {
+    Rebind,
+    Rst,
+    Hold,
 }
 
 // The call that a first word names.
@@ -31,9 +36,9 @@ pub fn call_named(word: &[u8]) -> Call {
 fn call_of(letter: u8) -> Call {
     match letter {
         b'd' => Call::Decide,
-        b'b' => Call::Rebind,
-        b'k' => Call::Rst,
-        b'h' => Call::Hold,
+        b'b' => Call::Timed(Asked::Rebind),
+        b'k' => Call::Timed(Asked::Rst),
+        b'h' => Call::Timed(Asked::Hold),
         b'o' => Call::Overflow,
         b's' => Call::Stats,
         _ => Call::Unknown,
