@@ -31,10 +31,17 @@ turns-after-requires : tie.Need-turns-after-requires Inv-loop μ-loop
 turns-after-requires c κs = search needs
 
 loop-less : tie.Need-loop-less Inv-loop μ-loop
-loop-less c = rw (c .turns-after .ensures) (fewer _ (c .before .before .before .before .before .before .before .before .before .before .before .before .before .before .before .before .before .next .result .event) (c .before .before .before .before .before .before .before .before .before .before .before .before .before .before .before .before .before .before .before .before .loop-test .taken))
+loop-less c =
+    let read = c .before .before .before .before .before .before .before .before .before .before .before .before .before .before .before .before .before in
+    rw (c .turns-after .ensures) (fewer _ (read .next .result .event) (read .before .before .before .loop-test .taken))
 
 loop-again : tie.Need-loop-again Inv-loop μ-loop
-loop-again c = (c .before .before .before .before .before .before .out .given ∙ c .before .before .before .before .before .before .before .before .before .before .before .before .before .before .before .before .before .before .before .before .before .loop .inv .0, (c .before .before .before .before .before .before .before .before .before .before .before .before .before .before .before .before .chunk .given ∙ c .before .before .before .before .before .before .before .before .before .before .before .before .before .before .before .before .before .before .before .before .before .loop .inv .1 .0, (c .before .before .before .before .before .before .before .before .before .before .before .before .before .before .kept .given ∙ c .before .before .before .before .before .before .before .before .before .before .before .before .before .before .before .before .before .before .before .before .before .loop .inv .1 .1 .0, (c .before .before .before .before .spare .given ∙ c .before .before .before .before .before .before .before .before .before .before .before .before .before .before .before .before .before .before .before .before .before .loop .inv .1 .1 .1 .0, c .before .before .text .given ∙ c .before .before .before .before .before .before .before .before .before .before .before .before .before .before .before .before .before .before .before .before .before .loop .inv .1 .1 .1 .1))))
+loop-again c =
+    let written = c .before .before .before .before .before .before in
+    let kept = written .before .before .before .before .before .before .before .before in
+    let read = kept .before .before in
+    let at = read .before .before .before .before .before in
+    (written .out .given ∙ at .loop .inv .0, (read .chunk .given ∙ at .loop .inv .1 .0, (kept .kept .given ∙ at .loop .inv .1 .1 .0, (c .before .before .before .before .spare .given ∙ at .loop .inv .1 .1 .1 .0, c .before .before .text .given ∙ at .loop .inv .1 .1 .1 .1))))
 
 same-length : tie.Need-same-length Inv-loop μ-loop
 same-length c = search needs

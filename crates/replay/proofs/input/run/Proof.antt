@@ -28,7 +28,9 @@ turns-after-requires : tie.Need-turns-after-requires Inv-loop μ-loop
 turns-after-requires c κs = search needs
 
 loop-less : tie.Need-loop-less Inv-loop μ-loop
-loop-less c = rw (c .turns-after .ensures) (fewer _ (c .before .before .before .before .before .before .before .before .before .before .before .before .before .before .next .result .event) (c .before .before .before .before .before .before .before .before .before .before .before .before .before .before .before .before .before .loop-test .taken))
+loop-less c =
+    let read = c .before .before .before .before .before .before .before .before .before .before .before .before .before .before in
+    rw (c .turns-after .ensures) (fewer _ (read .next .result .event) (read .before .before .before .loop-test .taken))
 
 loop-again : tie.Need-loop-again Inv-loop μ-loop
 loop-again c = search needs

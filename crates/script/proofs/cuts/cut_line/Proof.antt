@@ -9,7 +9,7 @@ use Rattle.values.specs.Laws.Scan.{step, end}
 use lib.ListN.{length, drop, set, getD, length-set}
 use mathlib.Core.Bool.{true, false}
 use mathlib.Core.List.{List}
-use mathlib.Core.Path.{_≡_, refl, sym, _∙_, ap}
+use mathlib.Core.Path.{_≡_, refl, sym, _∙_}
 use Prim.Native.Nat.{ℕ, _+_, _-_, _<_, _≤_}
 use Rattle.script.proofs.cuts.cut_line.Statement.{statement}
 use Rattle.script.proofs.cuts.cut_line.Tie as tie

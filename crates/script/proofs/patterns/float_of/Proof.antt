@@ -2,7 +2,7 @@
 use borrow.Author.Tests.{lt-ltb, le-ltb}
 use Prim.Native.Nat.{ℕ, _%_, _<_, _≤_}
 use mathlib.Core.Path.{_≡_, refl, sym, _∙_}
-use mathlib.Core.Bool.{true, false, not}
+use mathlib.Core.Bool.{not}
 use lib.Dec.{T}
 use lib.Ieee.Bits.{nanBits-is, nanBits-above}
 use lib.Ieee.{Float, div, binary64, nan, inf, fin, isNan, ofBits, nanBits}

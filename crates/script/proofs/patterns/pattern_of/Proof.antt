@@ -1,5 +1,4 @@
 -- What is read so far, read on over what is left, is what the whole gives; i digits give less than 16 ^ i.
-use denote.Ref.{now}
 use borrow.Author.Needs.{needs}
 use borrow.Author.Tests.{lt-ltb, le-ltb, ne-eqb}
 use Rattle.script.specs.declared.patterns.Pattern.the-variants.{Bits, Wrong}
@@ -12,7 +11,7 @@ use native.Mathlib.Omega.{arith}
 use lib.Dec.{lit<}
 use lib.ListN.{length, drop, getD}
 use mathlib.Core.List.{List}
-use mathlib.Core.Path.{_≡_, refl, sym, _∙_}
+use mathlib.Core.Path.{_≡_, sym, _∙_}
 use Prim.Native.Nat.{ℕ, _+_, _-_, _*_, _^_, _<_, _≤_}
 use Rattle.script.proofs.patterns.pattern_of.Statement.{statement}
 use Rattle.script.proofs.patterns.pattern_of.Tie as tie
