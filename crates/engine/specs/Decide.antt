@@ -3,8 +3,9 @@ use Prim.Native.Nat.{ℕ}
 use lib.Ieee.{Float}
 use Rattle.steps.specs.Arrival.{arrivedOf}
 use Rattle.steps.specs.declared.arrival.Arrival.{Arrival}
+use Rattle.judgement.specs.Scalars.{scalarsOf}
 use Rattle.engine.specs.Counts.{countedOf}
-use Rattle.engine.specs.Engine.{scalarsOf, stateOf, gateAtOf}
+use Rattle.engine.specs.Engine.{stateOf, gateAtOf}
 use Rattle.engine.specs.declared.answers.Arrived.{Arrived}
 use Rattle.engine.specs.declared.engine.ArrivalEngine.{ArrivalEngine}
 

@@ -11,7 +11,7 @@ use Rattle.options.specs.declared.config.DirectionConfig.{DirectionConfig}
 use Rattle.steps.specs.Bucket.{bucketCapacityOf}
 use Rattle.steps.specs.Gate.{killGateOf, anyWindowOf, gateOf}
 use Rattle.steps.specs.declared.arrival.ArrivalState.{ArrivalState}
-use Rattle.steps.specs.declared.arrival.DirectionScalars.{DirectionScalars}
+use Rattle.judgement.specs.declared.scalars.DirectionScalars.{DirectionScalars}
 use Rattle.steps.specs.declared.gate.Gate.{Gate}
 use Rattle.engine.specs.declared.engine.ArrivalEngine.{ArrivalEngine}
 
@@ -31,22 +31,6 @@ freshOf cfg seed =
       «next_rebind_ms» = nextRebindOf (cfg .«nat_change_every_ms»);
       «rebinds_done» = 0;
       stats = noStats;
-    }
-
--- the settings without their lists
-unfoldable pub scalarsOf : DirectionConfig → DirectionScalars
-scalarsOf cfg =
-    record {
-      loss = cfg .loss;
-      ge = cfg .ge;
-      «delay_ms» = cfg .«delay_ms»;
-      «jitter_ms» = cfg .«jitter_ms»;
-      «reorder_p» = cfg .«reorder_p»;
-      «reorder_delay_ms» = cfg .«reorder_delay_ms»;
-      «duplicate_p» = cfg .«duplicate_p»;
-      «rate_bps» = cfg .«rate_bps»;
-      «rate_burst_bytes» = cfg .«rate_burst_bytes»;
-      mtu = cfg .mtu;
     }
 
 -- what an arrival changes, apart from the counters

@@ -25,10 +25,11 @@ use Rattle.steps.specs.Due.{jitteredOf, reorderedOf, waitedOf, owedOf}
 use Rattle.steps.specs.Gate.{killGateOf, anyWindowOf, gateOf}
 use Rattle.steps.specs.Mtu.{exceedsOf}
 use Rattle.steps.specs.declared.decision.Decision.the-variants.{DropRandom, DropMtu, Enqueue}
+use Rattle.judgement.specs.Scalars.{scalarsOf}
 use Rattle.engine.specs.Calls.{newOf, decideOf}
 use Rattle.engine.specs.Counts.{oneIf, countsOf, countedOf}
 use Rattle.engine.specs.Decide.{afterOf, decideUncheckedOf}
-use Rattle.engine.specs.Engine.{nextRebindOf, freshOf, scalarsOf, stateOf, gateAtOf}
+use Rattle.engine.specs.Engine.{nextRebindOf, freshOf, stateOf, gateAtOf}
 use Rattle.engine.specs.Refusals.{refusalOf, judgedOf}
 use Rattle.engine.specs.declared.answers.DecideAnswer.the-variants.{Decided}
 use Rattle.engine.specs.declared.answers.Decided.{Decided as DecidedEngine}

@@ -10,8 +10,7 @@ use crate::answers::DecideAnswer;
 use crate::answers::Decided;
 use crate::counts::counted;
 use crate::engine::ArrivalEngine;
-use crate::parts::gate_at;
-use crate::parts::scalars;
+use crate::windows::gate_at;
 use steps::ArrivalState;
 
 impl ArrivalEngine {
@@ -23,7 +22,7 @@ impl ArrivalEngine {
     {
         let cfg = self.cfg;
         let gate = gate_at(cfg, now_ms);
-        let c = scalars(cfg);
+        let c = judgement::scalars_of(cfg);
         let rng = self.rng;
         let before = ArrivalState {
             rng,

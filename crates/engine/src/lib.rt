@@ -5,10 +5,10 @@ mod creation;
 mod decide;
 mod engine;
 mod overflow;
-mod parts;
 mod rebind;
 mod refusal;
 mod stalls;
+mod windows;
 
 pub use answers::Arrived;
 pub use answers::BoolAnswer;

@@ -1,11 +1,13 @@
 // Which refusal meets a call.
 ghost use mathlib.Core.Path.{_≡_};
+ghost use Rattle.options.specs.Judgement.{isSettingsOf};
 ghost use Rattle.engine.specs.Refusals.{refusalOf, countersPass, judgedOf};
 use crate::engine::ArrivalEngine;
 use numbers::REFUSED_COUNTER;
 use numbers::REFUSED_INSTANT;
 use numbers::REFUSED_LENGTH;
 use numbers::REFUSED_SETTINGS;
+use options::DirectionConfig;
 
 // The number of the first test that fails, in document 01's order, or 0.
 fn refusal(settings: bool, instant: bool, length: bool, counters: bool) -> u32
@@ -26,6 +28,14 @@ fn refusal(settings: bool, instant: bool, length: bool, counters: bool) -> u32
     0
 }
 
+// Whether refusal 29 lets the settings through, part by part, so that no list is copied that has no entries.
+fn passes(cfg: DirectionConfig) -> bool
+    ensures { λ r. ⌜ r ≡ isSettingsOf cfg ⌝ }
+{
+    judgement::are_scalars(judgement::scalars_of(cfg))
+        & (judgement::are_blackouts(cfg) & judgement::are_tcp_kills(cfg))
+}
+
 impl ArrivalEngine {
     // Whether refusal 25 lets the counters through.
     fn in_range(self) -> bool
@@ -40,11 +50,6 @@ impl ArrivalEngine {
         ensures { λ r. ⌜ r ≡ judgedOf self instant length ⌝ }
     {
         let cfg = self.cfg;
-        refusal(
-            judgement::is_settings(cfg),
-            instant,
-            length,
-            self.in_range(),
-        )
+        refusal(passes(cfg), instant, length, self.in_range())
     }
 }

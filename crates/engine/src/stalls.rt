@@ -3,8 +3,8 @@ ghost use mathlib.Core.Path.{_≡_};
 ghost use Rattle.engine.specs.Calls.{rstNowOf, holdNowOf};
 use crate::answers::BoolAnswer;
 use crate::engine::ArrivalEngine;
-use crate::parts::blackout_at;
-use crate::parts::kill_at;
+use crate::windows::blackout_at;
+use crate::windows::kill_at;
 
 impl ArrivalEngine {
     // Whether a kill that resets holds the instant, or a refusal by 29, 21 or 25.

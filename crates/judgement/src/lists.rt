@@ -3,7 +3,7 @@ ghost use mathlib.Core.Path.{_≡_};
 ghost use Prim.Native.Nat.{_≤_};
 ghost use lib.ListN.{take};
 ghost use Rattle.settings.specs.Judgement.{isWindow, isKill, allOf, isList};
-use crate::scalars::is_window;
+use crate::setting::is_window;
 use options::DirectionConfig;
 use settings::TcpKill;
 use settings::Window;
@@ -40,7 +40,7 @@ fn are_kills(kills: [TcpKill; 128], count: usize) -> bool
 }
 
 // The list is read only where entries are counted, since it is copied for that.
-pub(crate) fn are_blackouts(cfg: DirectionConfig) -> bool
+pub fn are_blackouts(cfg: DirectionConfig) -> bool
     ensures { λ r. ⌜ r ≡ isList isWindow (cfg .blackouts) (cfg .«blackout_count») ⌝ }
 {
     let count = cfg.blackout_count;
@@ -54,7 +54,7 @@ pub(crate) fn are_blackouts(cfg: DirectionConfig) -> bool
     are_windows(windows, count)
 }
 
-pub(crate) fn are_tcp_kills(cfg: DirectionConfig) -> bool
+pub fn are_tcp_kills(cfg: DirectionConfig) -> bool
     ensures { λ r. ⌜ r ≡ isList isKill (cfg .«tcp_kills») (cfg .«tcp_kill_count») ⌝ }
 {
     let count = cfg.tcp_kill_count;

@@ -1,70 +1,68 @@
-// One setting of a direction.
+// The settings of a direction without its lists.
 ghost use mathlib.Core.Path.{_≡_};
-ghost use Rattle.values.specs.Whole.{isBounded};
-ghost use Rattle.settings.specs.Judgement.{isProbability, isTime, isPositive, isGe, isWindow};
-ghost use Rattle.options.specs.Judgement.{isRate, isMtu};
+ghost use Rattle.judgement.specs.Scalars.{scalarsOf, areScalarsOf};
+use crate::setting::is_bounded;
+use crate::setting::is_ge;
+use crate::setting::is_mtu;
+use crate::setting::is_probability;
+use crate::setting::is_rate;
+use crate::setting::is_time;
+use options::DirectionConfig;
 use options::MtuOption;
 use options::RateOption;
 use settings::GeOption;
-use settings::Window;
 
-// From 0 to 1; a NaN is not.
-pub(crate) fn is_probability(x: f64) -> bool
-    ensures { λ r. ⌜ r ≡ isProbability x ⌝ }
-{
-    (0.0 <= x) & (x <= 1.0)
+// Apart from the lists, so that it can be handed on without a copy of them.
+pub struct DirectionScalars {
+    pub loss: f64,
+    pub ge: GeOption,
+    pub delay_ms: f64,
+    pub jitter_ms: f64,
+    pub reorder_p: f64,
+    pub reorder_delay_ms: f64,
+    pub duplicate_p: f64,
+    pub rate_bps: RateOption,
+    pub rate_burst_bytes: u64,
+    pub mtu: MtuOption,
+    pub nat_change_every_ms: u64,
 }
 
-// From 0 to 999999999999999 milliseconds; a NaN is not.
-pub(crate) fn is_time(x: f64) -> bool
-    ensures { λ r. ⌜ r ≡ isTime x ⌝ }
+pub fn scalars_of(cfg: DirectionConfig) -> DirectionScalars
+    ensures { λ r. ⌜ r ≡ scalarsOf cfg ⌝ }
 {
-    (0.0 <= x) & (x <= 999999999999999.0)
-}
-
-// At most 2^53.
-pub(crate) fn is_bounded(n: u64) -> bool
-    ensures { λ r. ⌜ r ≡ isBounded n ⌝ }
-{
-    n <= 9007199254740992
-}
-
-fn is_positive(n: u64) -> bool
-    ensures { λ r. ⌜ r ≡ isPositive n ⌝ }
-{
-    (n != 0) & is_bounded(n)
-}
-
-pub(crate) fn is_ge(ge: GeOption) -> bool
-    ensures { λ r. ⌜ r ≡ isGe ge ⌝ }
-{
-    match ge {
-        GeOption::Absent => true,
-        GeOption::Present(g) => is_probability(g.p) & (is_probability(g.r) & is_probability(g.h)),
+    let ge = cfg.ge;
+    let rate_bps = cfg.rate_bps;
+    let mtu = cfg.mtu;
+    DirectionScalars {
+        loss: cfg.loss,
+        ge,
+        delay_ms: cfg.delay_ms,
+        jitter_ms: cfg.jitter_ms,
+        reorder_p: cfg.reorder_p,
+        reorder_delay_ms: cfg.reorder_delay_ms,
+        duplicate_p: cfg.duplicate_p,
+        rate_bps,
+        rate_burst_bytes: cfg.rate_burst_bytes,
+        mtu,
+        nat_change_every_ms: cfg.nat_change_every_ms,
     }
 }
 
-pub(crate) fn is_rate(rate: RateOption) -> bool
-    ensures { λ r. ⌜ r ≡ isRate rate ⌝ }
+// Whether refusal 29 lets all of them through.
+pub fn are_scalars(s: DirectionScalars) -> bool
+    ensures { λ r. ⌜ r ≡ areScalarsOf s ⌝ }
 {
-    match rate {
-        RateOption::Absent => true,
-        RateOption::Present(bps) => is_positive(bps),
-    }
-}
-
-pub(crate) fn is_mtu(mtu: MtuOption) -> bool
-    ensures { λ r. ⌜ r ≡ isMtu mtu ⌝ }
-{
-    match mtu {
-        MtuOption::Absent => true,
-        MtuOption::Present(most) => is_positive(most as u64),
-    }
-}
-
-// It ends after its start, and both bounds are at most 2^53.
-pub(crate) fn is_window(w: Window) -> bool
-    ensures { λ r. ⌜ r ≡ isWindow w ⌝ }
-{
-    (w.start_ms < w.end_ms) & (is_bounded(w.start_ms) & is_bounded(w.end_ms))
+    let ge = s.ge;
+    let rate = s.rate_bps;
+    let mtu = s.mtu;
+    is_probability(s.loss)
+        & (is_ge(ge)
+            & (is_time(s.delay_ms)
+                & (is_time(s.jitter_ms)
+                    & (is_probability(s.reorder_p)
+                        & (is_time(s.reorder_delay_ms)
+                            & (is_probability(s.duplicate_p)
+                                & (is_rate(rate)
+                                    & (is_bounded(s.rate_burst_bytes)
+                                        & (is_mtu(mtu) & is_bounded(s.nat_change_every_ms))))))))))
 }

@@ -5,7 +5,7 @@ use lib.Ieee.{Float, binary64, add}
 use Rattle.draws.specs.declared.rng.Rng.{Rng}
 use Rattle.steps.specs.declared.arrival.Arrival.{Arrival}
 use Rattle.steps.specs.declared.arrival.ArrivalState.{ArrivalState}
-use Rattle.steps.specs.declared.arrival.DirectionScalars.{DirectionScalars}
+use Rattle.judgement.specs.declared.scalars.DirectionScalars.{DirectionScalars}
 use Rattle.steps.specs.declared.decision.Decision.{Decision}
 use Rattle.steps.specs.declared.decision.Decision.the-variants.{DropRandom, DropGe, DropMtu, DropBlackout, DropKillHold, Enqueue, KillRst}
 use Rattle.steps.specs.declared.gate.Gate.{Gate}

@@ -9,23 +9,7 @@ use crate::due;
 use crate::gate::Gate;
 use crate::mtu;
 use draws::Rng;
-use options::MtuOption;
-use options::RateOption;
-use settings::GeOption;
-
-// The settings of a direction without its lists.
-pub struct DirectionScalars {
-    pub loss: f64,
-    pub ge: GeOption,
-    pub delay_ms: f64,
-    pub jitter_ms: f64,
-    pub reorder_p: f64,
-    pub reorder_delay_ms: f64,
-    pub duplicate_p: f64,
-    pub rate_bps: RateOption,
-    pub rate_burst_bytes: u64,
-    pub mtu: MtuOption,
-}
+use judgement::DirectionScalars;
 
 // What decides an arrival beside the settings, and is changed by it.
 pub struct ArrivalState {

@@ -12,7 +12,6 @@ mod mtu;
 
 pub use arrival::Arrival;
 pub use arrival::ArrivalState;
-pub use arrival::DirectionScalars;
 pub use arrival::arrived;
 pub use blackouts::any_window;
 pub use bucket::bucket_capacity;

@@ -6,8 +6,9 @@ use Rattle.options.specs.declared.config.DirectionConfig.{DirectionConfig}
 use Rattle.steps.specs.Arrival.{arrivedOf}
 use Rattle.steps.specs.declared.arrival.Arrival.{Arrival}
 use Rattle.steps.specs.declared.arrival.ArrivalState.{ArrivalState}
+use Rattle.judgement.specs.Scalars.{scalarsOf}
 use Rattle.engine.specs.Decide.{afterOf, decideUncheckedOf}
-use Rattle.engine.specs.Engine.{scalarsOf, stateOf, gateAtOf}
+use Rattle.engine.specs.Engine.{stateOf, gateAtOf}
 use Rattle.engine.specs.declared.engine.ArrivalEngine.{ArrivalEngine}
 
 -- two engines that decide alike

@@ -23,9 +23,10 @@ use Rattle.options.specs.Laws.Judgement.{default-judged}
 use Rattle.options.specs.declared.config.DirectionConfig.{DirectionConfig}
 use Rattle.steps.specs.Laws.Credit.{longestPlanned, full-credit}
 use Rattle.steps.specs.Laws.Sound.{SoundScalars, SoundState, DueFrom, arrived-sound}
+use Rattle.judgement.specs.Scalars.{scalarsOf}
 use Rattle.engine.specs.Calls.{newOf, decideOf}
 use Rattle.engine.specs.Decide.{afterOf, decideUncheckedOf}
-use Rattle.engine.specs.Engine.{freshOf, scalarsOf, stateOf}
+use Rattle.engine.specs.Engine.{freshOf, stateOf}
 use Rattle.engine.specs.Laws.Refusals.{no-refusal}
 use Rattle.engine.specs.Refusals.{arrivalRefusal}
 use Rattle.engine.specs.declared.answers.Changed.{Changed}

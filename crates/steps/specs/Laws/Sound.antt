@@ -25,7 +25,7 @@ use Rattle.options.specs.declared.config.RateOption.{RateOption}
 use Rattle.options.specs.declared.config.RateOption.the-variants.{Absent, Present}
 use Rattle.steps.specs.declared.arrival.Arrival.{Arrival}
 use Rattle.steps.specs.declared.arrival.ArrivalState.{ArrivalState}
-use Rattle.steps.specs.declared.arrival.DirectionScalars.{DirectionScalars}
+use Rattle.judgement.specs.declared.scalars.DirectionScalars.{DirectionScalars}
 use Rattle.steps.specs.declared.decision.Decision.{Decision}
 use Rattle.steps.specs.declared.decision.Decision.the-variants.{DropRandom, DropGe, DropMtu, DropBlackout, DropKillHold, Enqueue, KillRst}
 use Rattle.steps.specs.declared.due.Due.{Due}

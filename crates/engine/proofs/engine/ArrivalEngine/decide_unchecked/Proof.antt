@@ -8,8 +8,8 @@ use Rattle.engine.proofs.engine.ArrivalEngine.decide_unchecked.Tie as t
 gate-at-requires : tie.Need-gate-at-requires
 gate-at-requires c κs = search needs
 
-scalars-requires : tie.Need-scalars-requires
-scalars-requires c κs = search needs
+scalars-of-requires : tie.Need-scalars-of-requires
+scalars-of-requires c κs = search needs
 
 arrived-requires : tie.Need-arrived-requires
 arrived-requires c κs = search needs
@@ -19,9 +19,9 @@ counted-requires c κs = search needs
 
 returns : tie.Need-returns
 unfolding decideUncheckedOf afterOf stateOf
-returns c = rw (c .counted .ensures, c .before .before .before .before .arrived .ensures, c .before .before .before .before .before .before .scalars .ensures, c .before .before .before .before .before .before .before .gate-at .ensures)
+returns c = rw (c .counted .ensures, c .before .before .before .before .arrived .ensures, c .before .before .before .before .before .before .scalars-of .ensures, c .before .before .before .before .before .before .before .gate-at .ensures)
 
 pub decide-unchecked-spec : {M : Type 1} → statement M
 decide-unchecked-spec =
     tie.close
-    (tie.spec gate-at-requires scalars-requires arrived-requires counted-requires returns)
+    (tie.spec gate-at-requires scalars-of-requires arrived-requires counted-requires returns)

@@ -4,8 +4,8 @@ use borrow.Author.Needs.{needs}
 use Rattle.engine.proofs.engine.ArrivalEngine.judged.Statement.{statement}
 use Rattle.engine.proofs.engine.ArrivalEngine.judged.Tie as tie
 
-is-settings-requires : tie.Need-is-settings-requires
-is-settings-requires c κs = search needs
+passes-requires : tie.Need-passes-requires
+passes-requires c κs = search needs
 
 in-range-requires : tie.Need-in-range-requires
 in-range-requires c κs = search needs
@@ -15,7 +15,7 @@ refusal-requires c κs = search needs
 
 returns : tie.Need-returns
 unfolding judgedOf
-returns c = rw (c .refusal .ensures, c .before .in-range .ensures, c .before .before .is-settings .ensures)
+returns c = rw (c .refusal .ensures, c .before .in-range .ensures, c .before .before .passes .ensures)
 
 pub judged-spec : {M : Type 1} → statement M
-judged-spec = tie.close (tie.spec is-settings-requires in-range-requires refusal-requires returns)
+judged-spec = tie.close (tie.spec passes-requires in-range-requires refusal-requires returns)

@@ -1,7 +1,7 @@
 -- Not 0, and at most 2 ^ 53.
 use borrow.Author.Needs.{needs}
-use Rattle.judgement.proofs.scalars.is_positive.Statement.{statement}
-use Rattle.judgement.proofs.scalars.is_positive.Tie as tie
+use Rattle.judgement.proofs.setting.is_positive.Statement.{statement}
+use Rattle.judgement.proofs.setting.is_positive.Tie as tie
 
 is-bounded-requires : tie.Need-is-bounded-requires
 is-bounded-requires c κs = search needs

@@ -1,33 +1,12 @@
-// What an arrival asks of the settings.
+// What the windows of the settings say of an instant.
 ghost use mathlib.Core.Path.{_≡_};
 ghost use mathlib.Core.Bool.{cond};
 ghost use lib.ListN.{take};
 ghost use Rattle.steps.specs.Gate.{killGateOf, anyWindowOf, killNowOf};
 ghost use Rattle.steps.specs.declared.gate.Gate.the-variants.{Open, Blackout};
-ghost use Rattle.engine.specs.Engine.{scalarsOf, gateAtOf};
+ghost use Rattle.engine.specs.Engine.{gateAtOf};
 use options::DirectionConfig;
-use steps::DirectionScalars;
 use steps::Gate;
-
-pub(crate) fn scalars(cfg: DirectionConfig) -> DirectionScalars
-    ensures { λ r. ⌜ r ≡ scalarsOf cfg ⌝ }
-{
-    let ge = cfg.ge;
-    let rate_bps = cfg.rate_bps;
-    let mtu = cfg.mtu;
-    DirectionScalars {
-        loss: cfg.loss,
-        ge,
-        delay_ms: cfg.delay_ms,
-        jitter_ms: cfg.jitter_ms,
-        reorder_p: cfg.reorder_p,
-        reorder_delay_ms: cfg.reorder_delay_ms,
-        duplicate_p: cfg.duplicate_p,
-        rate_bps,
-        rate_burst_bytes: cfg.rate_burst_bytes,
-        mtu,
-    }
-}
 
 // What the kills say of the instant; the list is read only where entries are counted, since it is copied for that.
 fn kills_at(cfg: DirectionConfig, now_ms: f64) -> Gate

@@ -1,8 +1,8 @@
 -- Two comparisons.
 use mathlib.Core.Path.{refl}
 use lib.Ieee.{ofInt, ofBits}
-use Rattle.judgement.proofs.scalars.is_time.Statement.{statement}
-use Rattle.judgement.proofs.scalars.is_time.Tie as tie
+use Rattle.judgement.proofs.setting.is_time.Statement.{statement}
+use Rattle.judgement.proofs.setting.is_time.Tie as tie
 
 returns : tie.Need-returns
 unfolding ofInt ofBits

@@ -1,8 +1,8 @@
 -- No entries, or the scan.
 use Rattle.steps.specs.Gate.{anyWindowOf}
 use borrow.Author.Needs.{needs}
-use Rattle.engine.proofs.parts.blackout_at.Statement.{statement}
-use Rattle.engine.proofs.parts.blackout_at.Tie as tie
+use Rattle.engine.proofs.windows.blackout_at.Statement.{statement}
+use Rattle.engine.proofs.windows.blackout_at.Tie as tie
 
 returns : tie.Need-returns
 unfolding anyWindowOf

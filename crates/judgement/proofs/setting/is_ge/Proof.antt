@@ -1,7 +1,7 @@
 -- Three probabilities, where there are any.
 use borrow.Author.Needs.{needs}
-use Rattle.judgement.proofs.scalars.is_ge.Statement.{statement}
-use Rattle.judgement.proofs.scalars.is_ge.Tie as tie
+use Rattle.judgement.proofs.setting.is_ge.Statement.{statement}
+use Rattle.judgement.proofs.setting.is_ge.Tie as tie
 
 enum-told : tie.Need-enum-told
 enum-told c = search needs

@@ -1,7 +1,7 @@
 -- Two cases.
 use borrow.Author.Needs.{needs}
-use Rattle.judgement.proofs.scalars.is_rate.Statement.{statement}
-use Rattle.judgement.proofs.scalars.is_rate.Tie as tie
+use Rattle.judgement.proofs.setting.is_rate.Statement.{statement}
+use Rattle.judgement.proofs.setting.is_rate.Tie as tie
 
 enum-told : tie.Need-enum-told
 enum-told c = search needs

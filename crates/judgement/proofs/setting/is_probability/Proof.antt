@@ -1,8 +1,8 @@
 -- Two comparisons.
 use mathlib.Core.Path.{refl}
 use lib.Ieee.{ofInt, ofBits}
-use Rattle.judgement.proofs.scalars.is_probability.Statement.{statement}
-use Rattle.judgement.proofs.scalars.is_probability.Tie as tie
+use Rattle.judgement.proofs.setting.is_probability.Statement.{statement}
+use Rattle.judgement.proofs.setting.is_probability.Tie as tie
 
 returns : tie.Need-returns
 unfolding ofInt ofBits

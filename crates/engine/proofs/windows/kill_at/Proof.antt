@@ -1,8 +1,8 @@
 -- No entries, or the scan.
 use Rattle.steps.specs.Gate.{killNowOf}
 use borrow.Author.Needs.{needs}
-use Rattle.engine.proofs.parts.kill_at.Statement.{statement}
-use Rattle.engine.proofs.parts.kill_at.Tie as tie
+use Rattle.engine.proofs.windows.kill_at.Statement.{statement}
+use Rattle.engine.proofs.windows.kill_at.Tie as tie
 
 returns : tie.Need-returns
 unfolding killNowOf

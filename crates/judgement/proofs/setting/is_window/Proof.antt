@@ -1,7 +1,7 @@
 -- Three comparisons.
 use borrow.Author.Needs.{needs}
-use Rattle.judgement.proofs.scalars.is_window.Statement.{statement}
-use Rattle.judgement.proofs.scalars.is_window.Tie as tie
+use Rattle.judgement.proofs.setting.is_window.Statement.{statement}
+use Rattle.judgement.proofs.setting.is_window.Tie as tie
 
 is-bounded-requires : tie.Need-is-bounded-requires
 is-bounded-requires c κs = search needs

@@ -1,8 +1,8 @@
 -- No entries, or the scan.
 use Rattle.steps.specs.Gate.{killGateOf}
 use borrow.Author.Needs.{needs}
-use Rattle.engine.proofs.parts.kills_at.Statement.{statement}
-use Rattle.engine.proofs.parts.kills_at.Tie as tie
+use Rattle.engine.proofs.windows.kills_at.Statement.{statement}
+use Rattle.engine.proofs.windows.kills_at.Tie as tie
 
 returns : tie.Need-returns
 unfolding killGateOf

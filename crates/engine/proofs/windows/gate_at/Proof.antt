@@ -3,8 +3,8 @@ use Rattle.engine.specs.Engine.{gateAtOf}
 use Rattle.steps.specs.Gate.{gateOf}
 use mathlib.Core.Path.{sym, _∙_}
 use borrow.Author.Needs.{needs}
-use Rattle.engine.proofs.parts.gate_at.Statement.{statement}
-use Rattle.engine.proofs.parts.gate_at.Tie as tie
+use Rattle.engine.proofs.windows.gate_at.Statement.{statement}
+use Rattle.engine.proofs.windows.gate_at.Tie as tie
 
 kills-at-requires : tie.Need-kills-at-requires
 kills-at-requires c κs = search needs

@@ -1,0 +1,30 @@
+-- The judgement of each part.
+use Rattle.judgement.specs.Laws.Parts.{settings-parts}
+use borrow.Author.Needs.{needs}
+use Rattle.engine.proofs.refusal.passes.Statement.{statement}
+use Rattle.engine.proofs.refusal.passes.Tie as tie
+
+scalars-of-requires : tie.Need-scalars-of-requires
+scalars-of-requires c κs = search needs
+
+are-scalars-requires : tie.Need-are-scalars-requires
+are-scalars-requires c κs = search needs
+
+are-blackouts-requires : tie.Need-are-blackouts-requires
+are-blackouts-requires c κs = search needs
+
+are-tcp-kills-requires : tie.Need-are-tcp-kills-requires
+are-tcp-kills-requires c κs = search needs
+
+returns : tie.Need-returns
+returns c = rw (c .are-tcp-kills .ensures, c .before .are-blackouts .ensures, c .before .before .are-scalars .ensures, c .before .before .before .scalars-of .ensures) (settings-parts (c .before .before .before .before .args .cfg))
+
+pub passes-spec : {M : Type 1} → statement M
+passes-spec =
+    tie.close
+    (tie.spec
+    scalars-of-requires
+    are-scalars-requires
+    are-blackouts-requires
+    are-tcp-kills-requires
+    returns)

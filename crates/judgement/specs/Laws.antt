@@ -1,0 +1,2 @@
+-- Parts (the judgement of the settings, part by part).
+pub mod Parts
