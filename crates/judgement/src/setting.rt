@@ -62,9 +62,13 @@ pub(crate) fn is_mtu(mtu: MtuOption) -> bool
     }
 }
 
-// It ends after its start, and both bounds are at most 2^53.
+// It ends after its start, and both bounds are at most 2^53; the start is, where the later end is.
 pub(crate) fn is_window(w: Window) -> bool
     ensures { λ r. ⌜ r ≡ isWindow w ⌝ }
 {
-    (w.start_ms < w.end_ms) & (is_bounded(w.start_ms) & is_bounded(w.end_ms))
+    if w.start_ms < w.end_ms {
+        is_bounded(w.end_ms)
+    } else {
+        false
+    }
 }
