@@ -1,10 +1,7 @@
 // The line `engine DIRECTION SEED`: a new engine of the settings that the option text has for the direction.
 use crate::state::State;
-use accounts::Outcome;
 use engine::ArrivalEngine;
 use engine::Changed;
-use output::collected;
-use script::answers;
 
 // A text that is refused gives the default settings.
 pub fn answer(out: &mut [u8], mut s: State, c2s: bool, seed: u64, text: &[u8]) -> State {
@@ -12,7 +9,7 @@ pub fn answer(out: &mut [u8], mut s: State, c2s: bool, seed: u64, text: &[u8]) -
     let outcome = made.outcome;
     let engine = made.engine;
     s.engine = engine;
-    s.at = outcome_text(out, s.at, outcome);
+    s.at = engine_words::outcome(out, s.at, b"created", outcome);
     s
 }
 
@@ -25,12 +22,5 @@ fn created(text: &[u8], c2s: bool, seed: u64) -> Changed {
     } else {
         let settings = config.s2c;
         ArrivalEngine::new(settings, seed)
-    }
-}
-
-fn outcome_text(out: &mut [u8], at: usize, outcome: Outcome) -> usize {
-    match outcome {
-        Outcome::Done => collected::text(out, at, b"created"),
-        Outcome::Refused(n) => answers::refused(out, at, n),
     }
 }

@@ -1,9 +1,7 @@
 // The lines `o` and `s`: a drop at a full queue is counted, and the statistics are printed.
 use crate::state::State;
 use accounts::DirectionStats;
-use accounts::Outcome;
 use output::collected;
-use script::answers;
 
 pub fn overflow(out: &mut [u8], mut s: State) -> State {
     let engine = s.engine;
@@ -11,15 +9,8 @@ pub fn overflow(out: &mut [u8], mut s: State) -> State {
     let outcome = changed.outcome;
     let moved = changed.engine;
     s.engine = moved;
-    s.at = outcome_text(out, s.at, outcome);
+    s.at = engine_words::outcome(out, s.at, b"overflow", outcome);
     s
-}
-
-fn outcome_text(out: &mut [u8], at: usize, outcome: Outcome) -> usize {
-    match outcome {
-        Outcome::Done => collected::text(out, at, b"overflow"),
-        Outcome::Refused(n) => answers::refused(out, at, n),
-    }
 }
 
 pub fn answer(out: &mut [u8], mut s: State) -> State {
