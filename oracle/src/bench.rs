@@ -1,11 +1,13 @@
 // The benchmark's loops, as the program crates/bench runs them.
+mod arguments;
 mod config;
 mod impair;
 mod rng;
 mod stats;
 
+use arguments::arguments;
 use config::parse_config;
-use impair::{ArrivalEngine, Decision, SendAccountant};
+use impair::SendAccountant;
 use rng::Rng;
 use std::io::Read;
 
@@ -14,8 +16,6 @@ fn main() {
     std::io::stdin().read_to_end(&mut text).unwrap();
     if text.is_empty() {
         sends();
-    } else if let Some(text) = text.strip_prefix(b"decide ") {
-        decides(text);
     } else {
         parses(&text);
     }
@@ -34,11 +34,6 @@ fn sends() {
     println!("{}\n{}", l.hist[0], l.hist[11]);
 }
 
-fn arguments(text: &[u8]) -> Vec<String> {
-    let closed = text.strip_suffix(&[0]).unwrap();
-    closed.split(|&b| b == 0).map(|a| String::from_utf8(a.to_vec()).unwrap()).collect()
-}
-
 // The arguments are parted once, before the loop.
 fn parses(text: &[u8]) {
     let arguments = arguments(text);
@@ -50,25 +45,4 @@ fn parses(text: &[u8]) {
         sum += config.seed + config.c2s.blackouts.len() as u64;
     }
     println!("{turns}\n{taken}\n{sum}");
-}
-
-fn decides(text: &[u8]) {
-    let mut engine = ArrivalEngine::new(parse_config(&arguments(text)).unwrap().c2s, 1);
-    let (mut now_ms, mut sum) = (0.0, 0u64);
-    for i in 0..10_000_000 {
-        sum = sum.wrapping_add(weight(engine.decide(now_ms, i % 1500)));
-        now_ms += 0.001;
-    }
-    let s = &engine.stats;
-    println!("{}\n{}\n{}\n{}", s.received_pkts, s.received_bytes, s.dropped_random, s.dropped_blackout);
-    println!("{}\n{}\n{}\n{sum}", s.duplicates, s.reorder_hits, s.rate_deferred);
-}
-
-// The bits of the due; a small number for each other decision.
-fn weight(decision: Decision) -> u64 {
-    match decision {
-        Decision::Enqueue { due_ms, .. } => due_ms.to_bits(),
-        Decision::KillRst => 6,
-        Decision::Drop(reason) => 1 + ["random", "ge", "mtu", "blackout", "kill-hold"].iter().position(|r| *r == reason).unwrap() as u64,
-    }
 }

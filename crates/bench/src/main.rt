@@ -1,6 +1,4 @@
-// The benchmark's loops: without input packets are accounted, and an option text on standard input is read again and again,
-// or, where the word decide and a blank stand before it, packets arrive at an engine of its settings.
-mod decides;
+// The benchmark's loops: without input packets are accounted, and an option text on standard input is read again and again.
 mod parses;
 mod print;
 mod sends;
@@ -18,15 +16,6 @@ fn run(space: &mut [u8]) {
     if n == 0 {
         sends::run();
     } else {
-        with_text(&space[..n]);
-    }
-}
-
-fn with_text(input: &[u8]) {
-    let word = b"decide ";
-    if values::is_same(values::front(input, word.len()), word) {
-        decides::run(values::after(input, word.len()));
-    } else {
-        parses::run(input);
+        parses::run(&space[..n]);
     }
 }

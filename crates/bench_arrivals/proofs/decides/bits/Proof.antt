@@ -1,8 +1,8 @@
 -- What equals itself is no NaN, so it has a bit pattern.
 use Rattle.numbers.specs.Laws.Kinds.{self-equal, number-is}
 use borrow.Author.Needs.{needs}
-use Rattle.bench.proofs.decides.bits.Statement.{statement}
-use Rattle.bench.proofs.decides.bits.Tie as tie
+use Rattle.bench_arrivals.proofs.decides.bits.Statement.{statement}
+use Rattle.bench_arrivals.proofs.decides.bits.Tie as tie
 
 float-to-bits-result : tie.Need-float-to-bits-result
 float-to-bits-result c = rw (number-is (self-equal (c .before .args .x) (c .if1 .left))) tt

@@ -1,6 +1,5 @@
 // Ten million packets arrive at an engine of an option text's c2s settings, and what was decided is summed up, so that
 // the work cannot be left out.
-use crate::print;
 use accounts::DirectionStats;
 use engine::ArrivalEngine;
 use engine::DecideAnswer;
@@ -23,7 +22,7 @@ pub fn run(text: &[u8]) {
     }
     let stats = engine.stats;
     print_counts(stats);
-    print::count(sum);
+    count(sum);
 }
 
 // The bits of the due; a small number for each other answer.
@@ -51,11 +50,17 @@ fn bits(x: f64) -> u64 {
 }
 
 fn print_counts(s: DirectionStats) {
-    print::count(s.received_pkts);
-    print::count(s.received_bytes);
-    print::count(s.dropped_random);
-    print::count(s.dropped_blackout);
-    print::count(s.duplicates);
-    print::count(s.reorder_hits);
-    print::count(s.rate_deferred);
+    count(s.received_pkts);
+    count(s.received_bytes);
+    count(s.dropped_random);
+    count(s.dropped_blackout);
+    count(s.duplicates);
+    count(s.reorder_hits);
+    count(s.rate_deferred);
+}
+
+// The number on a line of its own.
+fn count(n: u64) {
+    output::decimal(n);
+    output::end();
 }

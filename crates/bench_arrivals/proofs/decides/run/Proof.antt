@@ -1,8 +1,8 @@
 -- The loop ends after ten million packets.
 use borrow.Author.Needs.{needs}
 use Prim.Native.Nat.{_≤_, _-_}
-use Rattle.bench.proofs.decides.run.Statement.{statement}
-use Rattle.bench.proofs.decides.run.Tie as tie
+use Rattle.bench_arrivals.proofs.decides.run.Statement.{statement}
+use Rattle.bench_arrivals.proofs.decides.run.Tie as tie
 
 abbrev Inv-loop : tie.InvT-loop
 Inv-loop text engine₀ now-ms₀ sum₀ i₀ engine now-ms sum i = i ≤ 10000000
