@@ -15,6 +15,7 @@ const BAD: [&str; 12] = [
 pub struct Calls {
     edges: Vec<u64>,
     period: u64,
+    next_rebind: f64,
     mtu: Option<u64>,
     now: f64,
 }
@@ -25,6 +26,7 @@ impl Calls {
         Calls {
             edges: windows.flat_map(|window| [window.start_ms, window.end_ms]).collect(),
             period: settings.nat_change_every_ms,
+            next_rebind: settings.nat_change_every_ms as f64,
             mtu: settings.mtu.map(|mtu| mtu as u64),
             now: 0.0,
         }
@@ -36,17 +38,31 @@ impl Calls {
             0 => r.pick(&BAD).to_string(),
             1..=2 => "s".to_string(),
             3..=5 => "o".to_string(),
-            6..=20 => format!("b {}", self.instant(r)),
+            6..=20 => format!("b {}", self.rebind_instant(r)),
             21..=28 => format!("k {}", self.instant(r)),
             29..=36 => format!("h {}", self.instant(r)),
             _ => format!("d {} {}", self.instant(r), self.length(r)),
         }
     }
 
-    // The bits of an instant; some in a hundred are out of range.
+    // The bits of an instant.
     fn instant(&mut self, r: &mut SplitMix) -> String {
-        let drawn = if r.percent(1) { out_of_range(r) } else { self.in_range(r) };
-        format!("{:016x}", drawn.to_bits())
+        bits(self.drawn(r))
+    }
+
+    // Some instants in a hundred are out of range.
+    fn drawn(&mut self, r: &mut SplitMix) -> f64 {
+        if r.percent(1) { out_of_range(r) } else { self.in_range(r) }
+    }
+
+    // Of a line that has a period often the next rebind itself, or a neighbour of it.
+    fn rebind_instant(&mut self, r: &mut SplitMix) -> String {
+        let near = self.period > 0 && r.percent(40);
+        let instant = if near { within(beside(r, self.next_rebind)) } else { self.drawn(r) };
+        if self.period > 0 && instant >= self.next_rebind && instant <= LAST {
+            self.next_rebind += self.period as f64;
+        }
+        bits(instant)
     }
 
     // Most instants go forward by a small step; of the others half are left again with the next one.
@@ -101,6 +117,10 @@ impl Calls {
             _ => r.below(2049) as u64,
         }
     }
+}
+
+fn bits(instant: f64) -> String {
+    format!("{:016x}", instant.to_bits())
 }
 
 fn fraction(r: &mut SplitMix) -> f64 {

@@ -23,14 +23,15 @@ fn bursts(r: &mut SplitMix) -> String {
     format!("{}:{}:{}", r.pick(&FEW), r.pick(&["0.1", "0.5", "1"]), r.pick(&["0.3", "0.9", "1", "0"]))
 }
 
-// From 1 to 2^53, of all orders of magnitude.
+// From 1 to 2^53, of all orders of magnitude; some are about what the arrivals bring, so that the credit goes up and down.
 fn rate(r: &mut SplitMix) -> String {
     let any = (1 + r.below(1 << 53)) >> r.below(53);
-    r.pick(&[1, 8, 8_000, 100_000, 1_000_000, 12_000_000, 1_000_000_000, 1 << 53, any, any, any]).max(1).to_string()
+    let load = 1_000_000 + r.below(9_000_000);
+    r.pick(&[1, 8, 8_000, 100_000, 12_000_000, 1_000_000_000, 1 << 53, any, any, load, load, load]).max(1).to_string()
 }
 
 fn burst_bytes(r: &mut SplitMix) -> String {
-    r.pick(&["0", "1", "100", "1500", "1501", "20000", "9007199254740992"]).to_string()
+    r.pick(&["0", "1", "100", "1500", "1501", "5000", "20000", "9007199254740992"]).to_string()
 }
 
 fn mtu(r: &mut SplitMix) -> String {
