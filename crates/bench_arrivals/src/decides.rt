@@ -40,7 +40,7 @@ fn decision_weight(decision: Decision) -> u64 {
         Decision::DropMtu => 3,
         Decision::DropBlackout => 4,
         Decision::DropKillHold => 5,
-        Decision::Enqueue(due_ms, _) => bits(due_ms),
+        Decision::Enqueue { due_ms, .. } => bits(due_ms),
         Decision::KillRst => 6,
     }
 }

@@ -44,7 +44,7 @@ fn counts_of(decision: Decision) -> DecisionCounts
         Decision::DropMtu => counts(0, 0, 1, 0, 0),
         Decision::DropBlackout => counts(0, 0, 0, 1, 0),
         Decision::DropKillHold => counts(0, 0, 0, 1, 0),
-        Decision::Enqueue(_, duplicate) => counts(0, 0, 0, 0, one_if(duplicate)),
+        Decision::Enqueue { extra_dup, .. } => counts(0, 0, 0, 0, one_if(extra_dup)),
         Decision::KillRst => counts(0, 0, 0, 0, 0),
     }
 }

@@ -20,7 +20,7 @@ fn decision_text(out: &mut [u8], at: usize, decision: Decision) -> usize {
         Decision::DropMtu => collected::text(out, at, b"drop mtu"),
         Decision::DropBlackout => collected::text(out, at, b"drop blackout"),
         Decision::DropKillHold => collected::text(out, at, b"drop kill-hold"),
-        Decision::Enqueue(due_ms, extra_dup) => enqueue_text(out, at, due_ms, extra_dup),
+        Decision::Enqueue { due_ms, extra_dup } => enqueue_text(out, at, due_ms, extra_dup),
         Decision::KillRst => collected::text(out, at, b"reset"),
     }
 }

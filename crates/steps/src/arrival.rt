@@ -70,7 +70,10 @@ fn scheduled(c: DirectionScalars, s: ArrivalState, now_ms: f64, len: usize) -> A
             tokens,
             last_refill_ms,
         },
-        decision: Decision::Enqueue(due_ms, duplicate.hit),
+        decision: Decision::Enqueue {
+            due_ms,
+            extra_dup: duplicate.hit,
+        },
         deferred,
         reordered: reorder.hit,
     }

@@ -9,7 +9,7 @@ pub enum Decision {
     DropMtu,
     DropBlackout,
     DropKillHold,
-    Enqueue(f64, bool),
+    Enqueue { due_ms: f64, extra_dup: bool },
     KillRst,
 }
 
@@ -23,7 +23,7 @@ impl Decision {
             Decision::DropMtu => true,
             Decision::DropBlackout => true,
             Decision::DropKillHold => true,
-            Decision::Enqueue(_, _) => false,
+            Decision::Enqueue { .. } => false,
             Decision::KillRst => false,
         }
     }
