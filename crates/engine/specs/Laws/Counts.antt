@@ -2,13 +2,19 @@
 use mathlib.Core.Path.{_≡_, refl}
 use mathlib.Core.Bool.{Bool, true, false}
 use Prim.Native.Nat.{ℕ, _+_, _≤_}
-use lib.Dec.{lit≤}
+use lib.Dec.{eqb, lit≤}
 use lib.Ieee.{Float}
+use Rattle.numbers.specs.Laws.NotNan.{cond-has}
 use Rattle.steps.specs.Decision.{isDropOf}
 use Rattle.steps.specs.declared.decision.Decision.{Decision}
 use Rattle.steps.specs.declared.decision.Decision.the-variants.{DropRandom, DropGe, DropMtu, DropBlackout, DropKillHold, Enqueue, KillRst}
+use Rattle.engine.specs.Calls.{decideOf}
 use Rattle.engine.specs.Counts.{oneIf, countsOf, countedOf}
 use Rattle.engine.specs.Decide.{afterOf, decideUncheckedOf}
+use Rattle.engine.specs.Refusals.{arrivalRefusal}
+use Rattle.engine.specs.declared.answers.DecideAnswer.{DecideAnswer}
+use Rattle.engine.specs.declared.answers.DecideAnswer.the-variants.{Decided, Refused}
+use Rattle.engine.specs.declared.answers.Decided.{Decided as DecidedEngine}
 use Rattle.engine.specs.declared.counts.DecisionCounts.{DecisionCounts}
 use Rattle.engine.specs.declared.engine.ArrivalEngine.{ArrivalEngine}
 
@@ -83,3 +89,12 @@ pub record CountedAs (before after : ArrivalEngine) (len : ℕ) (d : Decision) :
 pub decide-counts : (e : ArrivalEngine) (now : Float) (len : ℕ) → CountedAs e (decideUncheckedOf e now len .engine) len (decideUncheckedOf e now len .decision)
 unfolding decideUncheckedOf afterOf countedOf
 decide-counts e now len = record { received = refl; bytes = refl; random = refl; ge = refl; mtu = refl; blackout = refl; duplicates = refl; overflow = refl; resets = refl; sent = refl; rebinds = refl }
+
+-- what a call of `decide` does to the counters: as its decision says, or nothing where it is refused
+abbrev pub Accounted : ArrivalEngine → ArrivalEngine → ℕ → DecideAnswer → Type 0
+Accounted before after len (Decided d) = CountedAs before after len d
+Accounted before after len (Refused k) = after ≡ before
+
+pub decide-accounts : (e : ArrivalEngine) (now : Float) (len : ℕ) → Accounted e (decideOf e now len .engine) len (decideOf e now len .answer)
+unfolding decideOf
+decide-accounts e now len = cond-has (λ (r : DecidedEngine). Accounted e (r .engine) len (r .answer)) (eqb (arrivalRefusal e now len) 0) (decide-counts e now len) refl

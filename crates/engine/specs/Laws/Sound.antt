@@ -1,4 +1,4 @@
--- Settings that refusal 29 lets through keep the credit finite and bounded, so no due is ever a NaN or before its arrival.
+-- Settings that refusal 29 lets through keep the credit finite, with a debt of at most 2 ^ 70, so no due is ever a NaN or before its arrival.
 use mathlib.Core.Path.{_≡_}
 use mathlib.Core.Bool.{true}
 use mathlib.Core.List.{List, [], _∷_}
@@ -76,12 +76,12 @@ new-sound cfg seed =
 -- ---- one arrival
 
 -- an instant and a length at which the credit stays bounded
-pub record Arrival (now : Float) (len : ℕ) : Type 0 where
+pub record Planned (now : Float) (len : ℕ) : Type 0 where
   pub fit : T (fits binary64 now)
   pub bounded : Bounded now
   pub short : len ≤ longestPlanned
 
-pub unchecked-sound : (e : ArrivalEngine) (now : Float) (len : ℕ) → SoundEngine e → Arrival now len
+pub unchecked-sound : (e : ArrivalEngine) (now : Float) (len : ℕ) → SoundEngine e → Planned now len
     → SoundEngine (decideUncheckedOf e now len .engine) × DueFrom now (decideUncheckedOf e now len .decision)
 unfolding decideUncheckedOf afterOf stateOf
 unchecked-sound e now len s a =
@@ -111,10 +111,19 @@ abbrev pub DuesAlong : ArrivalEngine → List (Float × ℕ) → Type 0
 DuesAlong e [] = Unit {0}
 DuesAlong e (a ∷ l) = DueFrom (a .0) (decideUncheckedOf e (a .0) (a .1) .decision) × DuesAlong (decideUncheckedOf e (a .0) (a .1) .engine) l
 
-abbrev pub Arrivals : List (Float × ℕ) → Type 0
-Arrivals [] = Unit {0}
-Arrivals (a ∷ l) = Arrival (a .0) (a .1) × Arrivals l
+abbrev pub AllPlanned : List (Float × ℕ) → Type 0
+AllPlanned [] = Unit {0}
+AllPlanned (a ∷ l) = Planned (a .0) (a .1) × AllPlanned l
 
-pub dues-sound : (e : ArrivalEngine) (l : List (Float × ℕ)) → SoundEngine e → Arrivals l → DuesAlong e l
+-- the engine after a sequence of arrivals
+abbrev pub afterAll : ArrivalEngine → List (Float × ℕ) → ArrivalEngine
+afterAll e [] = e
+afterAll e (a ∷ l) = afterAll (decideUncheckedOf e (a .0) (a .1) .engine) l
+
+pub arrivals-sound : (e : ArrivalEngine) (l : List (Float × ℕ)) → SoundEngine e → AllPlanned l → SoundEngine (afterAll e l)
+arrivals-sound e [] s h = s
+arrivals-sound e (a ∷ l) s h = arrivals-sound _ l (unchecked-sound e (a .0) (a .1) s (h .0) .0) (h .1)
+
+pub dues-sound : (e : ArrivalEngine) (l : List (Float × ℕ)) → SoundEngine e → AllPlanned l → DuesAlong e l
 dues-sound e [] s h = tt
 dues-sound e (a ∷ l) s h = let after = unchecked-sound e (a .0) (a .1) s (h .0) in (after .1, dues-sound _ l (after .0) (h .1))

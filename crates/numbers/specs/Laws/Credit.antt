@@ -1,4 +1,5 @@
--- The bucket's credit stays a finite number, its debt at most 2 ^ 70, and what a debt waits is a number not below 0.
+-- The bucket's credit stays a finite number, its debt at most 2 ^ 70 and itself at most the capacity, and what a debt waits is a number not below 0.
+use mathlib.Core.Path.{subst}
 use mathlib.Core.Bool.{Bool, true, false}
 use Prim.Native.Nat.{ℕ, _+_, _-_, _*_, _<_}
 use native.Mathlib.Nat.{mul-comm}
@@ -8,13 +9,14 @@ use lib.IntN.{ℤ, pos}
 use lib.Ieee.{Float, inf, fin, binary64, round, add, sum, sub, mul, div, neg, lt, le, up, down, fits}
 use lib.Ieee.Fits.{round-fits, neg-fits, add-fits}
 use Rattle.numbers.specs.Extremes.{minimumOf}
-use Rattle.numbers.specs.Laws.Kinds.{Finite, finite-fin, Plus, plus-inf, plus-fin, PlusFinite, plus-finite, number-inf, number-fin, plus-number, plus-finite-plus}
+use Rattle.numbers.specs.Laws.Kinds.{Finite, finite-fin, finite-number, Plus, plus-inf, plus-fin, PlusFinite, plus-finite, Number, number-inf, number-fin, plus-number, plus-finite-number, plus-finite-plus}
 use Rattle.numbers.specs.Laws.NotNan.{cond-has, round-plus, add-plus, mul-plus, div-plus}
 use Rattle.numbers.specs.Laws.Transitive.{le-trans}
-use Rattle.numbers.specs.Laws.Extremes.{chosen-has, chosen-number}
+use Rattle.numbers.specs.Laws.Extremes.{chosen-has, chosen-number, minimum-below}
 use Rattle.numbers.specs.Laws.Sums.{add-mono}
 use Rattle.numbers.specs.Laws.Products.{finite-below, mul-mono, div-mono}
 use Rattle.numbers.specs.Laws.Bounded.{Bounded, nought}
+use Rattle.numbers.specs.Laws.Zero.{nought-least, add-minus-zero}
 use Rattle.numbers.specs.Laws.Magnitude.{minus-le-plus, round-neg, le-neg, left-below}
 
 abbrev pub eightThousand : Float
@@ -122,6 +124,25 @@ pub credit-stays : {tokens elapsed rate cap len : Float} → Credit tokens → B
 credit-stays t e r c cf l lf ll =
     let w = capped (refill (t .fit) (t .finite) (t .floor) (amount e r)) c cf in
     charge (w .fit) (w .finite) (w .floor) lf l ll
+
+-- ---- not above the capacity
+
+refilled-number : {x : Float} → Refilled x → Number x
+refilled-number (held c) = finite-number (c .finite)
+refilled-number endless = number-inf false
+
+-- what is not above a bound is not above it after a packet is taken
+taken-below : {x y cap : Float} → Finite x → PlusFinite y → T (fits binary64 cap) → PlusFinite cap → T (le x cap) → T (le (sub binary64 x y) cap)
+unfolding sub neg
+taken-below {x} f (plus-finite n g) h (plus-finite m e) l =
+    subst (λ (z : Float). T (le (add binary64 x (fin true n g)) z)) (add-minus-zero binary64 (pos 0) h (plus-fin m e))
+    (add-mono binary64 f (finite-fin true n g) (finite-fin false m e) (finite-fin true 0 (pos 0)) l (rw (le-neg 0 n (pos 0) g) (nought-least (plus-finite n g))))
+
+pub credit-capped : {tokens elapsed rate cap len : Float} → Credit tokens → Bounded elapsed → Bounded rate → PlusFinite cap → T (fits binary64 cap) → PlusFinite len
+    → T (le (sub binary64 (refilledOf tokens elapsed rate cap) len) cap)
+credit-capped t e r c cf l =
+    let full = refill (t .fit) (t .finite) (t .floor) (amount e r) in
+    taken-below (capped full c cf .finite) l cf c (minimum-below (refilled-number full) (plus-finite-number c) .1)
 
 -- ---- what a debt waits
 

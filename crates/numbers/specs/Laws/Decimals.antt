@@ -17,7 +17,8 @@ use Rattle.numbers.specs.Whole.{whole}
 use Rattle.numbers.specs.Digits.{decimalValue}
 use Rattle.numbers.specs.Laws.Kinds.{Number, Finite, finite-fin, PlusFinite, plus-finite, value-plus, plus-finite-number}
 use Rattle.numbers.specs.Laws.NotNan.{div-fin, round-plus}
-use Rattle.numbers.specs.Laws.Order.{lt-is-not-le, cross→le}
+use Rattle.numbers.specs.Laws.Zero.{nought-least}
+use Rattle.numbers.specs.Laws.Order.{lt-is-not-le}
 use Rattle.numbers.specs.Laws.Whole.{whole-value}
 use Rattle.numbers.specs.Laws.Products.{finite-below}
 use Rattle.numbers.specs.Laws.Bounded.{nought, whole-bounded}
@@ -62,10 +63,6 @@ pub decimal-nearest : (n k : ℕ) {y : Float} → n ≤ 2 ^ 53 → k ≤ 15 → 
     → distance (decimalValue n k) n (10 ^ k) * den y ≤ distance y n (10 ^ k) * den (decimalValue n k)
 decimal-nearest n k h l q f =
     rw (decimal-rounded n k h l) (round-nearest binary64 n (10 ^ k) (ten-pos k) (rw (decimal-rounded n k h l) at (decimal-clear n k h l)) q f)
-
--- +0 is not above a finite number whose sign bit is clear
-nought-least : {x : Float} → PlusFinite x → T (le nought x)
-nought-least (plus-finite m e) = cross→le 0 m (pos 0) e (omega arith)
 
 -- a decimal of at most fifteen digits, as a time is, lies between 0 and 999999999999999
 pub decimal-time : (n k : ℕ) → n ≤ 999999999999999 → k ≤ 15 → (le nought (decimalValue n k) ≡ true) × (le (decimalValue n k) (whole 999999999999999) ≡ true)

@@ -41,6 +41,9 @@ pub plus-number : {x : Float} → Plus x → Number x
 plus-number plus-inf = number-inf false
 plus-number (plus-fin m e) = number-fin false m e
 
+pub finite-number : {x : Float} → Finite x → Number x
+finite-number (finite-fin s m e) = number-fin s m e
+
 pub plus-finite-number : {x : Float} → PlusFinite x → Number x
 plus-finite-number (plus-finite m e) = number-fin false m e
 

@@ -10,8 +10,9 @@ use lib.Ieee.{Float, nan, inf, fin, Format, add, sum, lt, le, up, down, fits}
 use lib.Ieee.Bits.{cond-no}
 use lib.Ieee.Fits.{down-pos, up-pos}
 use lib.Ieee.Scale.{round-same}
-use Rattle.numbers.specs.Laws.Kinds.{Plus, plus-inf, plus-fin, plus-number}
+use Rattle.numbers.specs.Laws.Kinds.{Plus, plus-inf, plus-fin, PlusFinite, plus-finite, plus-number}
 use Rattle.numbers.specs.Laws.NotNan.{add-plus}
+use Rattle.numbers.specs.Laws.Order.{cross→le}
 use Rattle.numbers.specs.Laws.Extremes.{le-self}
 use Rattle.numbers.specs.Laws.Values.{round-own}
 use Rattle.numbers.specs.Laws.Signed.{le→signed}
@@ -32,6 +33,10 @@ not-below (fin true zero e) h = minus-zero e
 not-below (fin true (suc m) e) h = absurd (omega (arith, le→signed false true 0 (suc m) (pos 0) e h, up-pos e))
 not-below (fin false m e) h = not-below-plus (plus-fin m e)
 
+-- 0 is the least number with a clear sign bit
+pub nought-least : {x : Float} → PlusFinite x → T (le nought x)
+nought-least (plus-finite m e) = cross→le 0 m (pos 0) e (omega arith)
+
 -- what is above 0 has a clear sign bit
 pub above-zero : (x : Float) → T (lt nought x) → Plus x
 unfolding lt
@@ -41,7 +46,7 @@ above-zero (inf false) h = plus-inf
 above-zero (fin true m e) h = absurd h
 above-zero (fin false m e) h = plus-fin m e
 
-add-minus-zero : (f : Format) {x : Float} (g : ℤ) → T (fits f x) → Plus x → add f x (fin true 0 g) ≡ x
+pub add-minus-zero : (f : Format) {x : Float} (g : ℤ) → T (fits f x) → Plus x → add f x (fin true 0 g) ≡ x
 unfolding add sum
 add-minus-zero f g h plus-inf = refl
 add-minus-zero f g h (plus-fin m e) =

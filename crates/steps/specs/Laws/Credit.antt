@@ -1,4 +1,4 @@
--- A full bucket is a credit, what the refill and the charge leave is one too, and what a debt waits is a number with a clear sign bit.
+-- A full bucket is a credit, what the refill and the charge leave is one too and at most the capacity, and what a debt waits is a number with a clear sign bit.
 use mathlib.Core.Path.{_≡_}
 use mathlib.Core.Bool.{true, not}
 use Prim.Native.Nat.{ℕ, _/_, _^_, _<_, _≤_}
@@ -15,7 +15,7 @@ use Rattle.numbers.specs.Laws.Kinds.{Plus, PlusFinite, plus-finite, value-plus}
 use Rattle.numbers.specs.Laws.NotNan.{cond-has}
 use Rattle.numbers.specs.Laws.Whole.{whole-value, whole-le}
 use Rattle.numbers.specs.Laws.Bounded.{Bounded, whole-bounded}
-use Rattle.numbers.specs.Laws.Credit.{Credit, plus-credit, credit-stays, longestPacket, waitOf, wait-plus}
+use Rattle.numbers.specs.Laws.Credit.{Credit, plus-credit, credit-stays, credit-capped, longestPacket, waitOf, wait-plus}
 use Rattle.numbers.specs.Laws.Elapsed.{elapsed-bounded}
 use Rattle.values.specs.Whole.{isBounded}
 use Rattle.options.specs.Judgement.{isRate}
@@ -47,9 +47,9 @@ full-credit rate burst h k = plus-credit (ofInt-fits binary64 (pos (bucketCapaci
 abbrev pub longestPlanned : ℕ
 longestPlanned = 9216
 
-length-within : (len : ℕ) → len ≤ longestPlanned → T (le (whole len) longestPacket)
+planned-within : (len : ℕ) → len ≤ longestPlanned → T (le (whole len) longestPacket)
 unfolding ofInt
-length-within len h = rw (whole-le len (2 ^ 14) (omega arith) (lit≤ tt)) (le→leb len (2 ^ 14) (omega arith))
+planned-within len h = rw (whole-le len (2 ^ 14) (omega arith) (lit≤ tt)) (le→leb len (2 ^ 14) (omega arith))
 
 -- a credit stays one
 pub charged-credit : {tokens last now : Float} (rate : RateOption) (burst len : ℕ) → isRate rate ≡ true → isBounded burst ≡ true → len ≤ longestPlanned
@@ -58,7 +58,16 @@ unfolding chargedOf refilledOf ofInt
 charged-credit Absent burst len h k s t lf l nf n = t
 charged-credit (Present bps) burst len h k s t lf l nf n =
     credit-stays t (elapsed-bounded nf lf n l) (whole-bounded bps (rate-within bps h .1)) (capacity-clear (Present bps) burst h k)
-    (ofInt-fits binary64 (pos (bucketCapacityOf (Present bps) burst))) (whole-bounded len (omega arith) .clear) (ofInt-fits binary64 (pos len)) (length-within len s)
+    (ofInt-fits binary64 (pos (bucketCapacityOf (Present bps) burst))) (whole-bounded len (omega arith) .clear) (ofInt-fits binary64 (pos len)) (planned-within len s)
+
+-- with a rate it is at most the capacity
+pub charged-capped : {tokens last now : Float} (bps burst len : ℕ) → isRate (Present bps) ≡ true → isBounded burst ≡ true → len ≤ longestPlanned
+    → Credit tokens → T (fits binary64 last) → Bounded last → T (fits binary64 now) → Bounded now
+    → T (le (chargedOf tokens last (Present bps) burst now len) (whole (bucketCapacityOf (Present bps) burst)))
+unfolding chargedOf refilledOf ofInt
+charged-capped bps burst len h k s t lf l nf n =
+    credit-capped t (elapsed-bounded nf lf n l) (whole-bounded bps (rate-within bps h .1)) (capacity-clear (Present bps) burst h k)
+    (ofInt-fits binary64 (pos (bucketCapacityOf (Present bps) burst))) (whole-bounded len (omega arith) .clear)
 
 -- what a debt waits
 pub wait-clear : {tokens : Float} (bps : ℕ) → isRate (Present bps) ≡ true → Credit tokens → T (lt tokens (whole 0))
