@@ -39,8 +39,8 @@ impl Calls {
             1..=2 => "s".to_string(),
             3..=5 => "o".to_string(),
             6..=20 => format!("b {}", self.rebind_instant(r)),
-            21..=28 => format!("k {}", self.instant(r)),
-            29..=36 => format!("h {}", self.instant(r)),
+            21..=28 => format!("k {}", self.window_instant(r)),
+            29..=36 => format!("h {}", self.window_instant(r)),
             _ => format!("d {} {}", self.instant(r), self.length(r)),
         }
     }
@@ -53,6 +53,15 @@ impl Calls {
     // Some instants in a hundred are out of range.
     fn drawn(&mut self, r: &mut SplitMix) -> f64 {
         if r.percent(1) { out_of_range(r) } else { self.in_range(r) }
+    }
+
+    // Of a line that has windows often an edge of one of them, or a neighbour of it.
+    fn window_instant(&mut self, r: &mut SplitMix) -> String {
+        if self.edges.is_empty() || r.percent(50) {
+            return self.instant(r);
+        }
+        let edge = r.pick(&self.edges) as f64;
+        bits(within(beside(r, edge)))
     }
 
     // Of a line that has a period often the next rebind itself, or a neighbour of it.

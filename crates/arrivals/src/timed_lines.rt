@@ -3,7 +3,7 @@ use crate::state::State;
 use crate::words::Asked;
 
 pub fn answer(out: &mut [u8], s: State, asked: Asked, now: u64) -> State {
-    let now_ms = script::float_of(now);
+    let now_ms = script::float_of_bits(now);
     match asked {
         Asked::Rebind => rebind(out, s, now_ms),
         Asked::Rst => rst(out, s, now_ms),

@@ -5,7 +5,7 @@ use options::DirectionConfig;
 use settings::Ge;
 use settings::GeOption;
 
-// The least number above 2^53 that is no setting.
+// The least whole number above 2^53.
 const TOO_LARGE: u64 = 9007199254740993;
 
 pub fn floats() {
@@ -13,6 +13,9 @@ pub fn floats() {
     print::creation(b"loss 1.5", records::with_loss(1.5));
     print::creation(b"loss -0.5", records::with_loss(-0.5));
     print::creation(b"loss nan", records::with_loss(records::nan()));
+    print::creation(b"jitter nan", with_jitter(records::nan()));
+    print::creation(b"reorder 1.5", with_reorder(1.5));
+    print::creation(b"duplicate nan", with_duplicate(records::nan()));
     print::creation(b"delay -0", records::with_delay(-0.0));
     print::creation(
         b"delay 999999999999999",
@@ -42,6 +45,24 @@ pub fn bursts() {
     print::creation(b"ge nan:1:1", burst_loss(records::nan(), 1.0, 1.0));
     print::creation(b"ge 1:2:1", burst_loss(1.0, 2.0, 1.0));
     print::creation(b"ge 1:1:-1", burst_loss(1.0, 1.0, -1.0));
+}
+
+fn with_jitter(jitter_ms: f64) -> DirectionConfig {
+    let mut d = DirectionConfig::default();
+    d.jitter_ms = jitter_ms;
+    d
+}
+
+fn with_reorder(reorder_p: f64) -> DirectionConfig {
+    let mut d = DirectionConfig::default();
+    d.reorder_p = reorder_p;
+    d
+}
+
+fn with_duplicate(duplicate_p: f64) -> DirectionConfig {
+    let mut d = DirectionConfig::default();
+    d.duplicate_p = duplicate_p;
+    d
 }
 
 fn with_burst(rate_burst_bytes: u64) -> DirectionConfig {

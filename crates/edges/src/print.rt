@@ -3,7 +3,8 @@ use engine::ArrivalEngine;
 use options::DirectionConfig;
 use output::collected;
 
-// Whether an engine is made of the settings; a refused one has a generator with the constant of seed 0.
+// Whether an engine is made of the settings, the state of its generator, and what becomes of a packet of 100 bytes at 0: a refused one has the default
+// settings and the generator of seed 0.
 pub fn creation(name: &[u8], cfg: DirectionConfig) {
     output::text(name);
     let changed = ArrivalEngine::new(cfg, 1);
@@ -16,6 +17,7 @@ pub fn creation(name: &[u8], cfg: DirectionConfig) {
     let engine = changed.engine;
     let rng = engine.rng;
     output::hex(rng.state);
+    decided(engine, 0.0, 100);
     output::end();
 }
 

@@ -1,4 +1,4 @@
--- How an engine starts from settings and seed, and the parts of its settings that an arrival asks for.
+-- How an engine starts from settings and seed, the state that an arrival changes, and what the windows of its settings say.
 use mathlib.Core.Bool.{false, cond}
 use Prim.Native.Nat.{ℕ}
 use lib.Dec.{ltb}
@@ -11,7 +11,6 @@ use Rattle.options.specs.declared.config.DirectionConfig.{DirectionConfig}
 use Rattle.steps.specs.Bucket.{bucketCapacityOf}
 use Rattle.steps.specs.Gate.{killGateOf, anyWindowOf, gateOf}
 use Rattle.steps.specs.declared.arrival.ArrivalState.{ArrivalState}
-use Rattle.judgement.specs.declared.scalars.DirectionScalars.{DirectionScalars}
 use Rattle.steps.specs.declared.gate.Gate.{Gate}
 use Rattle.engine.specs.declared.engine.ArrivalEngine.{ArrivalEngine}
 

@@ -28,7 +28,7 @@ fn refusal(settings: bool, instant: bool, length: bool, counters: bool) -> u32
     0
 }
 
-// Whether refusal 29 lets the settings through, part by part, so that no list is copied that has no entries.
+// Whether refusal 29 lets the settings through. The parts are put together here, since a call of is_settings would copy the whole record each time.
 fn passes(cfg: DirectionConfig) -> bool
     ensures { λ r. ⌜ r ≡ isSettingsOf cfg ⌝ }
 {

@@ -51,7 +51,7 @@ fn blackout_gate(blackout: bool) -> Gate
     if blackout { Gate::Blackout } else { Gate::Open }
 }
 
-// Whether a kill holds the instant: one that resets, or one that holds.
+// Whether the instant lies in the window of some kill that resets, or of some kill that holds bytes back.
 pub(crate) fn kill_at(cfg: DirectionConfig, rst: bool, now_ms: f64) -> bool
     ensures { λ r. ⌜ r ≡ killNowOf rst (take (cfg .«tcp_kill_count») (cfg .«tcp_kills»)) «now_ms» ⌝ }
 {

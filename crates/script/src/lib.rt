@@ -19,7 +19,7 @@ pub use lines::Line;
 pub use lines::is_complete;
 pub use option_text::text_of;
 pub use patterns::Pattern;
-pub use patterns::float_of;
+pub use patterns::float_of_bits;
 pub use patterns::pattern_of;
 pub use words::first_word;
 pub use words::goes_on;

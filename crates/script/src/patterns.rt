@@ -31,7 +31,7 @@ pub fn pattern_of(digits: &[u8]) -> Pattern
 }
 
 // The float of a pattern: a NaN for each pattern of one.
-pub fn float_of(bits: u64) -> f64
+pub fn float_of_bits(bits: u64) -> f64
     ensures { λ r. ⌜ r ≡ ofBits binary64 bits ⌝ }
 {
     if bits % 9223372036854775808 > 9218868437227405312 {

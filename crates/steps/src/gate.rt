@@ -54,7 +54,7 @@ pub fn kill_gate(kills: [TcpKill; 128], count: usize, now_ms: f64) -> Gate
     Gate::Open
 }
 
-// Whether some kill of the style holds the instant: one that resets, or one that holds.
+// Whether the instant lies in the window of some kill that resets, or of some kill that holds bytes back.
 pub fn kill_now(kills: [TcpKill; 128], count: usize, rst: bool, now_ms: f64) -> bool
     ensures { λ r. ⌜ r ≡ killNowOf rst (take count kills) «now_ms» ⌝ }
 {

@@ -1,6 +1,6 @@
 -- Refusal 29 lets settings through where it lets through the scalars and both lists.
-use mathlib.Core.Path.{_≡_, refl, sym, ap, _∙_}
-use mathlib.Core.Bool.{Bool, true, false, _&&_, and-assoc, and-comm}
+use mathlib.Core.Path.{_≡_, refl}
+use mathlib.Core.Bool.{Bool, true, false, _&&_}
 use Rattle.values.specs.Whole.{isBounded}
 use Rattle.settings.specs.Judgement.{isProbability, isTime, isGe, isWindow, isKill, isList}
 use Rattle.options.specs.Judgement.{isRate, isMtu, isSettingsOf}

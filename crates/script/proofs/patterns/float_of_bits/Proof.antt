@@ -7,8 +7,8 @@ use lib.Dec.{T}
 use lib.Ieee.Bits.{nanBits-is, nanBits-above}
 use lib.Ieee.{Float, div, binary64, nan, inf, fin, isNan, ofBits, nanBits}
 use borrow.Author.Needs.{needs}
-use Rattle.script.proofs.patterns.float_of.Statement.{statement}
-use Rattle.script.proofs.patterns.float_of.Tie as tie
+use Rattle.script.proofs.patterns.float_of_bits.Statement.{statement}
+use Rattle.script.proofs.patterns.float_of_bits.Tie as tie
 
 no-number : (x : Float) → T (isNan x) → nan ≡ x
 unfolding isNan
@@ -32,5 +32,5 @@ float-from-bits-result c = number (c .before .args .bits) (c .if1 .left)
 returns-2 : tie.Need-returns-2
 returns-2 c = search needs
 
-pub float-of-spec : {M : Type 1} → statement M
-float-of-spec = tie.close (tie.spec returns float-from-bits-result returns-2)
+pub float-of-bits-spec : {M : Type 1} → statement M
+float-of-bits-spec = tie.close (tie.spec returns float-from-bits-result returns-2)
