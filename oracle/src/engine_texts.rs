@@ -23,10 +23,15 @@ fn bursts(r: &mut SplitMix) -> String {
     format!("{}:{}:{}", r.pick(&FEW), r.pick(&["0.1", "0.5", "1"]), r.pick(&["0.3", "0.9", "1", "0"]))
 }
 
+// About as many bits a second as the arrivals bring.
+fn near_load(r: &mut SplitMix) -> usize {
+    200_000 + r.below(1_200_000)
+}
+
 // From 1 to 2^53, of all orders of magnitude; some are about what the arrivals bring, so that the credit goes up and down.
 fn rate(r: &mut SplitMix) -> String {
     let any = (1 + r.below(1 << 53)) >> r.below(53);
-    let load = 1_000_000 + r.below(9_000_000);
+    let load = near_load(r);
     r.pick(&[1, 8, 8_000, 100_000, 12_000_000, 1_000_000_000, 1 << 53, any, any, load, load, load]).max(1).to_string()
 }
 
@@ -105,8 +110,21 @@ fn list(r: &mut SplitMix, key: &str, draw: fn(&mut SplitMix) -> String) -> Vec<S
     (0..count).map(|_| draw(r)).map(|value| format!("--{key}={value}\0")).collect()
 }
 
+// A rate and a burst for both directions and nothing else, so that each rounding of the bucket shows in a due.
+fn shaped(r: &mut SplitMix) -> Vec<u8> {
+    let mut options = String::new();
+    for prefix in ["c2s", "s2c"] {
+        let (rate, burst) = (near_load(r), r.pick(&[1, 1500, 5000]));
+        options += &format!("--{prefix}-rate-bps={rate}\0--{prefix}-rate-burst-bytes={burst}\0");
+    }
+    options.into_bytes()
+}
+
 // A text with options for both directions.
 pub fn text(r: &mut SplitMix) -> Vec<u8> {
+    if r.percent(10) {
+        return shaped(r);
+    }
     let tcp = r.percent(35);
     let mut options = direction(r, "c2s-", tcp);
     options.extend(direction(r, "s2c-", tcp));
