@@ -5,9 +5,9 @@ use Rattle.numbers.specs.Whole.{whole}
 use Rattle.accounts.specs.declared.stats.DirectionStats.{DirectionStats}
 use Rattle.engine.specs.declared.engine.ArrivalEngine.{ArrivalEngine}
 
--- the statistics with this number of rebinds
-unfoldable pub withRebinds : DirectionStats → ℕ → DirectionStats
-withRebinds s n =
+-- the statistics with these numbers of copies that a full queue turned away and of rebinds
+unfoldable pub withOthers : DirectionStats → ℕ → ℕ → DirectionStats
+withOthers s overflow rebinds =
     record {
       «received_pkts» = s .«received_pkts»;
       «received_bytes» = s .«received_bytes»;
@@ -17,11 +17,11 @@ withRebinds s n =
       «dropped_ge» = s .«dropped_ge»;
       «dropped_mtu» = s .«dropped_mtu»;
       «dropped_blackout» = s .«dropped_blackout»;
-      «dropped_overflow» = s .«dropped_overflow»;
+      «dropped_overflow» = overflow;
       duplicates = s .duplicates;
       «reorder_hits» = s .«reorder_hits»;
       «rate_deferred» = s .«rate_deferred»;
-      «nat_rebinds» = n;
+      «nat_rebinds» = rebinds;
       «tcp_rst_kills» = s .«tcp_rst_kills»;
       «latency_count» = s .«latency_count»;
       «latency_sum_ms» = s .«latency_sum_ms»;
@@ -41,32 +41,7 @@ reboundOf e =
       «last_refill_ms» = e .«last_refill_ms»;
       «next_rebind_ms» = add binary64 (e .«next_rebind_ms») (whole (e .cfg .«nat_change_every_ms»));
       «rebinds_done» = e .«rebinds_done» + 1;
-      stats = withRebinds (e .stats) (e .«rebinds_done» + 1);
-    }
-
--- the statistics with this number of copies that a full queue turned away
-unfoldable pub withOverflow : DirectionStats → ℕ → DirectionStats
-withOverflow s n =
-    record {
-      «received_pkts» = s .«received_pkts»;
-      «received_bytes» = s .«received_bytes»;
-      «sent_pkts» = s .«sent_pkts»;
-      «sent_bytes» = s .«sent_bytes»;
-      «dropped_random» = s .«dropped_random»;
-      «dropped_ge» = s .«dropped_ge»;
-      «dropped_mtu» = s .«dropped_mtu»;
-      «dropped_blackout» = s .«dropped_blackout»;
-      «dropped_overflow» = n;
-      duplicates = s .duplicates;
-      «reorder_hits» = s .«reorder_hits»;
-      «rate_deferred» = s .«rate_deferred»;
-      «nat_rebinds» = s .«nat_rebinds»;
-      «tcp_rst_kills» = s .«tcp_rst_kills»;
-      «latency_count» = s .«latency_count»;
-      «latency_sum_ms» = s .«latency_sum_ms»;
-      «latency_min_ms» = s .«latency_min_ms»;
-      «latency_max_ms» = s .«latency_max_ms»;
-      hist = s .hist;
+      stats = withOthers (e .stats) (e .stats .«dropped_overflow») (e .«rebinds_done» + 1);
     }
 
 -- one copy more that a full queue turned away
@@ -80,5 +55,5 @@ overflowedOf e =
       «last_refill_ms» = e .«last_refill_ms»;
       «next_rebind_ms» = e .«next_rebind_ms»;
       «rebinds_done» = e .«rebinds_done»;
-      stats = withOverflow (e .stats) (e .stats .«dropped_overflow» + 1);
+      stats = withOthers (e .stats) (e .stats .«dropped_overflow» + 1) (e .stats .«nat_rebinds»);
     }

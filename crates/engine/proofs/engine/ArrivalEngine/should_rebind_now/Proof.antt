@@ -2,7 +2,7 @@
 use borrow.Author.Tests.{eq-eqb, ne-eqb}
 use native.Mathlib.Omega.{arith}
 use Rattle.engine.specs.Calls.{shouldRebindNowOf}
-use Rattle.engine.specs.Changes.{reboundOf, withRebinds}
+use Rattle.engine.specs.Changes.{reboundOf, withOthers}
 use Rattle.engine.specs.Laws.Refusals.{no-refusal}
 use mathlib.Core.Bool.{true}
 use mathlib.Core.Path.{sym, _∙_}
@@ -28,7 +28,7 @@ float-of-requires : tie.Need-float-of-requires
 float-of-requires c κs = search needs
 
 returns-2 : tie.Need-returns-2
-unfolding shouldRebindNowOf reboundOf withRebinds
+unfolding shouldRebindNowOf reboundOf withOthers
 returns-2 c = rw (← (c .before .before .before .before .before .before .before .before .before .is-instant .ensures), ← (c .before .before .before .before .before .before .before .before .judged .ensures), eq-eqb _ _ (c .before .before .before .before .before .before .before .if1 .left), c .before .before .before .before .before .if2 .taken, c .before .float-of .ensures)
 
 returns-3 : tie.Need-returns-3
