@@ -89,9 +89,29 @@ refusedInstant = 21
 abbrev pub refusedLength : ℕ
 refusedLength = 22
 
+-- "23 lent memory too short"
+abbrev pub refusedMemory : ℕ
+refusedMemory = 23
+
+-- "24 capacity out of range"
+abbrev pub refusedCapacity : ℕ
+refusedCapacity = 24
+
 -- "25 (every call) a counter (torn too) or next seq handed in is 2^60 or more"
 abbrev pub refusedCounter : ℕ
 refusedCounter = 25
+
+-- "26, found out of keeping"
+abbrev pub refusedKeeping : ℕ
+refusedKeeping = 26
+
+-- "27 due is NaN"
+abbrev pub refusedDue : ℕ
+refusedDue = 27
+
+-- "28, queue push when full"
+abbrev pub refusedFull : ℕ
+refusedFull = 28
 
 -- "29 settings with a NaN, a probability outside 0 to 1, a float time outside 0 to 999999999999999, ..."
 abbrev pub refusedSettings : ℕ

@@ -4,6 +4,9 @@ ghost use Rattle.numbers.specs.Limits.{isLengthOf, isCounterOf};
 // The longest packet in bytes.
 const MAX_LENGTH: usize = 2048;
 
+// The most copies that a queue can hold.
+pub const MAX_CAPACITY: u32 = 1048576;
+
 // The least number that no counter may have when it is handed in.
 const COUNTER_LIMIT: u64 = 0x1000_0000_0000_0000;
 

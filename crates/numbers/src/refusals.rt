@@ -66,8 +66,23 @@ pub const REFUSED_INSTANT: u32 = 21;
 // A length above the limit.
 pub const REFUSED_LENGTH: u32 = 22;
 
+// Lent memory that is too short.
+pub const REFUSED_MEMORY: u32 = 23;
+
+// A capacity that is out of range.
+pub const REFUSED_CAPACITY: u32 = 24;
+
 // A counter that is 2^60 or more.
 pub const REFUSED_COUNTER: u32 = 25;
+
+// State or lent memory that was altered between calls.
+pub const REFUSED_KEEPING: u32 = 26;
+
+// A due that is NaN.
+pub const REFUSED_DUE: u32 = 27;
+
+// A queue that is full.
+pub const REFUSED_FULL: u32 = 28;
 
 // Settings of which one is out of its range.
 pub const REFUSED_SETTINGS: u32 = 29;
