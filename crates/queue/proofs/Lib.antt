@@ -1,0 +1,4 @@
+pub mod RefusalSteps
+pub mod CreationSteps
+pub mod PushSteps
+pub mod ReleaseSteps

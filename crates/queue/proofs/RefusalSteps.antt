@@ -1,0 +1,80 @@
+-- What the refusals are made of, and what a call that meets none has passed.
+use mathlib.Core.Path.{_≡_, refl, sym, ap, _∙_}
+use mathlib.Core.Bool.{Bool, true, false, not, Bool·not-not}
+use Prim.Native.Nat.{ℕ, _<_, _≤_, _^_}
+use native.Mathlib.Omega.{arith}
+use lib.Dec.{leb, eqb}
+use lib.Ieee.{Float, isNan, eq, ne}
+use lib.ListN.{length}
+use borrow.Author.Tests.{leb-true}
+use Rattle.numbers.specs.Instant.{isInstantOf}
+use Rattle.numbers.specs.Limits.{maxCapacity, isCounterOf}
+use Rattle.numbers.specs.Laws.Both.{both-true}
+use Rattle.numbers.specs.Laws.Kinds.{nan-differs}
+use Rattle.numbers.specs.Laws.Limits.{counter-below}
+use Rattle.queue.specs.Tables.{Tables}
+use Rattle.queue.specs.Refusals.{refusalOf, hasRoom, shortestOf, memoryOf, inKeeping, pushRefusal, releaseRefusal}
+use Rattle.queue.specs.declared.queue.ImpairQueue.{ImpairQueue}
+
+-- only a NaN is not equal to itself
+pub eq-self : (x : Float) → eq x x ≡ not (isNan x)
+unfolding ne
+eq-self x = sym (ap not (nan-differs x) ∙ Bool·not-not (eq x x))
+
+-- the tests whose passing the proofs use
+record All (len counter keeping : Bool) : Type 0 where
+  len-passes : len ≡ true
+  counter-passes : counter ≡ true
+  keeping-passes : keeping ≡ true
+
+all-pass : (memory instant len due counter keeping space : Bool) → refusalOf memory instant len due counter keeping space ≡ 0 → All len counter keeping
+unfolding refusalOf
+all-pass false instant len due counter keeping space h = absurd (omega (arith, h))
+all-pass true false len due counter keeping space h = absurd (omega (arith, h))
+all-pass true true false due counter keeping space h = absurd (omega (arith, h))
+all-pass true true true false counter keeping space h = absurd (omega (arith, h))
+all-pass true true true true false keeping space h = absurd (omega (arith, h))
+all-pass true true true true true false space h = absurd (omega (arith, h))
+all-pass true true true true true true space h = record { len-passes = refl; counter-passes = refl; keeping-passes = refl }
+
+-- a state whose numbers can stand together
+pub record Sound (q : ImpairQueue) : Type 0 where
+  pub cap-within : q .cap ≤ maxCapacity
+  pub leaves-within : q .leaves ≤ q .cap
+  pub opened-within : q .opened ≤ q .leaves
+  pub held-within : q .held ≤ q .opened
+  pub seq-below : q .«next_seq» < 2 ^ 60
+
+sound : (q : ImpairQueue) → isCounterOf (q .«next_seq») ≡ true → inKeeping q ≡ true → Sound q
+unfolding inKeeping
+sound q counter keeping =
+    let held = both-true _ (leb (q .held) (q .opened)) keeping in
+    let opened = both-true _ (leb (q .opened) (q .leaves)) (held .0) in
+    let leaves = both-true (leb (q .cap) maxCapacity) (leb (q .leaves) (q .cap)) (opened .0) in
+    record {
+      cap-within = leb-true _ _ (leaves .0);
+      leaves-within = leb-true _ _ (leaves .1);
+      opened-within = leb-true _ _ (opened .1);
+      held-within = leb-true _ _ (held .1);
+      seq-below = counter-below (q .«next_seq») counter;
+    }
+
+pub push-passed : (width : ℕ) (q : ImpairQueue) (memory : Bool) (due arrival : Float) (len : ℕ) → pushRefusal width q memory due arrival len ≡ 0 → Sound q × (len ≤ width)
+unfolding pushRefusal
+push-passed width q memory due arrival len h =
+    let all = all-pass memory (isInstantOf arrival) (leb len width) (not (isNan due)) (isCounterOf (q .«next_seq»)) (inKeeping q) (not (eqb (q .held) (q .cap))) h in
+    (sound q (all .counter-passes) (all .keeping-passes), leb-true len width (all .len-passes))
+
+pub release-passed : (q : ImpairQueue) (memory : Bool) (now : Float) → releaseRefusal q memory now ≡ 0 → Sound q
+unfolding releaseRefusal
+release-passed q memory now h =
+    let all = all-pass memory (isInstantOf now) true true (isCounterOf (q .«next_seq»)) (inKeeping q) true h in
+    sound q (all .counter-passes) (all .keeping-passes)
+
+-- the shortest of the tables
+abbrev pub shortestIn : Tables → ℕ
+shortestIn t = shortestOf (length (t .win)) (length (t .free)) (length (t .dues)) (length (t .seqs)) (length (t .arrivals)) (length (t .routes)) (length (t .copyIds)) (length (t .lengths))
+
+-- whether the memory has room, as the code asks it
+pub memory-is : (width cap shortest : ℕ) (t : Tables) (memory : Bool) → shortest ≡ shortestIn t → memory ≡ hasRoom width cap shortest (length (t .store)) → memory ≡ memoryOf width cap t
+memory-is width cap shortest t memory es em = em ∙ ap (λ (s : ℕ). hasRoom width cap s (length (t .store))) es

@@ -1,0 +1,145 @@
+-- What each call gives for any state, memory and arguments: the state that comes back with the answer, and the tables. A refused call hands back the state
+-- that it was given and leaves the tables as they were.
+use mathlib.Core.Bool.{Bool, true, cond, not, _&&_}
+use mathlib.Core.List.{List}
+use Prim.Native.Nat.{ℕ, _+_, _-_, max}
+use lib.Dec.{leb, eqb}
+use lib.Ieee.{Float, le}
+use lib.ListN.{getD, length, set}
+use Rattle.numbers.specs.Limits.{maxCapacity}
+use Rattle.numbers.specs.Refusals.{refusedMemory, refusedCapacity, refusedKeeping}
+use Rattle.numbers.specs.Whole.{whole}
+use Rattle.tables.specs.Slots.{partOf}
+use Rattle.tournament.specs.Calls.{fitsOf, enterOf, leaveOf, leastOf}
+use Rattle.tournament.specs.Growth.{Tree}
+use Rattle.queue.specs.Tables.{Tables, After, after, Rows, rowsOf, writtenOf, treeOf, joined}
+use Rattle.queue.specs.Refusals.{memoryOf, pushRefusal, releaseRefusal, stateRefusal}
+use Rattle.queue.specs.declared.queue.ImpairQueue.{ImpairQueue}
+use Rattle.queue.specs.declared.answers.Created.{Created}
+use Rattle.queue.specs.declared.answers.CreateAnswer.the-variants as create
+use Rattle.queue.specs.declared.answers.Pushed.{Pushed}
+use Rattle.queue.specs.declared.answers.PushAnswer.the-variants as push
+use Rattle.queue.specs.declared.answers.Queued.{Queued}
+use Rattle.queue.specs.declared.answers.Released.{Released}
+use Rattle.queue.specs.declared.answers.ReleaseAnswer.{ReleaseAnswer}
+use Rattle.queue.specs.declared.answers.ReleaseAnswer.the-variants as release
+use Rattle.queue.specs.declared.answers.DueAnswer.{DueAnswer}
+use Rattle.queue.specs.declared.answers.DueAnswer.the-variants as due
+use Rattle.queue.specs.declared.answers.Drained.{Drained}
+use Rattle.queue.specs.declared.answers.DrainAnswer.the-variants as drain
+
+abbrev pub queue : ℕ → ℕ → ℕ → ℕ → ℕ → ImpairQueue
+queue c h n l o = record { cap = c; held = h; «next_seq» = n; leaves = l; opened = o }
+
+-- ---- creation and drain
+
+-- nothing is held, and no slot was used
+abbrev pub fresh : ℕ → ℕ → ImpairQueue
+fresh cap seq = queue cap 0 seq 0 0
+
+-- a refused creation gives a queue of capacity 1
+abbrev pub notCreated : ℕ → Created
+notCreated k = record { queue = fresh 1 0; answer = create.Refused k }
+
+-- "Capacity is 1 to 1,048,576 copies": 24, then 23
+unfoldable pub createOf : ℕ → ℕ → Tables → Created
+createOf width cap t =
+    cond (not (leb 1 cap && leb cap maxCapacity)) (notCreated refusedCapacity)
+    (cond (not (memoryOf width cap t)) (notCreated refusedMemory)
+    (record { queue = fresh cap 0; answer = create.Created }))
+
+-- all leave, and every slot is as if never used
+unfoldable pub drainOf : ImpairQueue → Drained
+drainOf q =
+    cond (eqb (stateRefusal q true) 0) (record { queue = fresh (q .cap) (q .«next_seq»); answer = drain.Drained (q .held) })
+    (record { queue = q; answer = drain.Refused (stateRefusal q true) })
+
+-- ---- push
+
+-- the slot that the next copy takes: the last that a copy left, or the first that was never used
+unfoldable pub nextSlot : ImpairQueue → List ℕ → ℕ
+nextSlot q free = cond (eqb (q .held) (q .opened)) (q .opened) (getD free (q .opened - q .held - 1) 0)
+
+-- one copy more, in a tournament of so many leaves
+abbrev pub oneMore : ImpairQueue → ℕ → ImpairQueue
+oneMore q leaves = queue (q .cap) (q .held + 1) (q .«next_seq» + 1) leaves (max (q .opened) (q .held + 1))
+
+abbrev pub notPushed : ImpairQueue → ℕ → Pushed
+notPushed q k = record { queue = q; answer = push.Refused k }
+
+-- the copy enters the slot with the next seq
+unfoldable pub enteredOf : ImpairQueue → Tree → List ℕ → Rows → ℕ → After Pushed
+enteredOf q g free r slot = after (record { queue = oneMore q (g .leaves); answer = push.Entered slot (q .«next_seq») }) (joined g free r)
+
+unfoldable pub pushOf : ℕ → ImpairQueue → Tables → Float → Float → ℕ → ℕ → List ℕ → After Pushed
+pushOf width q t due arrival route id bytes =
+    cond (eqb (pushRefusal width q (memoryOf width (q .cap) t) due arrival (length bytes)) 0)
+    (cond (fitsOf (q .cap) (q .leaves) (nextSlot q (t .free)))
+    (enteredOf q (enterOf (q .cap) (nextSlot q (t .free)) due (q .«next_seq») (treeOf (q .leaves) t)) (t .free) (writtenOf width (rowsOf t) (nextSlot q (t .free)) arrival route id bytes) (nextSlot q (t .free)))
+    (after (notPushed q refusedKeeping) t))
+    (after (notPushed q (pushRefusal width q (memoryOf width (q .cap) t) due arrival (length bytes))) t)
+
+-- ---- release
+
+-- what a slot holds
+abbrev pub queuedOf : List Float → List ℕ → List Float → List ℕ → List ℕ → List ℕ → ℕ → Queued
+queuedOf dues seqs arrivals routes ids lengths slot =
+    record {
+      «due_ms» = getD dues slot (whole 0);
+      seq = getD seqs slot 0;
+      «arrival_ms» = getD arrivals slot (whole 0);
+      route = getD routes slot 0;
+      «copy_id» = getD ids slot 0;
+      length = getD lengths slot 0;
+      slot = slot;
+    }
+
+-- one copy less
+abbrev pub oneLess : ImpairQueue → ImpairQueue
+oneLess q = queue (q .cap) (q .held - 1) (q .«next_seq») (q .leaves) (q .opened)
+
+abbrev pub notReleased : ImpairQueue → ReleaseAnswer → Tables → After Released
+notReleased q a t = after (record { queue = q; answer = a }) t
+
+-- the copy leaves its slot, which is the next to be used
+unfoldable pub leftOf : ImpairQueue → Tables → ℕ → After Released
+leftOf q t slot =
+    after (record { queue = oneLess q; answer = release.Released (queuedOf (t .dues) (t .seqs) (t .arrivals) (t .routes) (t .copyIds) (t .lengths) slot) })
+    (joined (leaveOf slot (treeOf (q .leaves) t)) (set (t .free) (q .opened - q .held) slot) (rowsOf t))
+
+-- "the least (due, seq) with due ≤ now leaves": it is the one at the root
+unfoldable pub dueOf : ImpairQueue → Tables → Float → ℕ → After Released
+dueOf q t now root =
+    cond (leb (q .leaves) root) (notReleased q (release.Refused refusedKeeping) t)
+    (cond (le (getD (t .dues) root (whole 0)) now) (leftOf q t root) (notReleased q release.NoneDue t))
+
+unfoldable pub releaseOf : ℕ → ImpairQueue → Tables → Float → After Released
+releaseOf width q t now =
+    cond (eqb (releaseRefusal q (memoryOf width (q .cap) t) now) 0)
+    (cond (eqb (q .held) 0) (notReleased q release.NoneDue t) (dueOf q t now (leastOf (t .win) (q .leaves))))
+    (notReleased q (release.Refused (releaseRefusal q (memoryOf width (q .cap) t) now)) t)
+
+-- ---- questions
+
+-- the two tables that the question reads
+unfoldable pub dueRefusal : ImpairQueue → ℕ → ℕ → ℕ
+dueRefusal q win dues = stateRefusal q (leb (q .cap) win && leb (q .cap) dues)
+
+unfoldable pub dueAt : ImpairQueue → List Float → ℕ → DueAnswer
+dueAt q dues root = cond (leb (q .leaves) root) (due.Refused refusedKeeping) (due.Due (getD dues root (whole 0)))
+
+unfoldable pub nextDueOf : ImpairQueue → List ℕ → List Float → DueAnswer
+nextDueOf q win dues =
+    cond (eqb (dueRefusal q (length win) (length dues)) 0)
+    (cond (eqb (q .held) 0) due.Empty (dueAt q dues (leastOf win (q .leaves))))
+    (due.Refused (dueRefusal q (length win) (length dues)))
+
+abbrev pub lenOf : ImpairQueue → ℕ
+lenOf q = q .held
+
+abbrev pub isEmptyOf : ImpairQueue → Bool
+isEmptyOf q = eqb (q .held) 0
+
+-- the bytes of a released copy, as a part of the store
+abbrev pub payloadOf : ℕ → List ℕ → ℕ → ℕ → List ℕ
+payloadOf width store slot len = partOf width store slot len

@@ -1,0 +1,56 @@
+-- "Order: creation 24, 23; calls 23, 21, 22, 27, 25, 28, those that apply", and 26 where what is found is out of keeping.
+use mathlib.Core.Bool.{Bool, true, cond, not, _&&_}
+use Prim.Native.Nat.{ℕ, _*_, min}
+use lib.Dec.{leb, eqb}
+use lib.Ieee.{Float, isNan}
+use lib.ListN.{length}
+use Rattle.numbers.specs.Instant.{isInstantOf}
+use Rattle.numbers.specs.Limits.{maxCapacity, isCounterOf}
+use Rattle.numbers.specs.Refusals.{refusedInstant, refusedLength, refusedMemory, refusedCounter, refusedKeeping, refusedDue, refusedFull}
+use Rattle.queue.specs.Tables.{Tables}
+use Rattle.queue.specs.declared.queue.ImpairQueue.{ImpairQueue}
+
+-- "Each store slot is 2,048 bytes."
+abbrev pub slotWidth : ℕ
+slotWidth = 2048
+
+-- the number of the first test that fails, or 0
+unfoldable pub refusalOf : Bool → Bool → Bool → Bool → Bool → Bool → Bool → ℕ
+refusalOf memory instant len due counter keeping space =
+    cond (not memory) refusedMemory
+    (cond (not instant) refusedInstant
+    (cond (not len) refusedLength
+    (cond (not due) refusedDue
+    (cond (not counter) refusedCounter
+    (cond (not keeping) refusedKeeping
+    (cond (not space) refusedFull 0))))))
+
+-- "The lent store has at least capacity × 2,048 bytes, and every other lent table at least capacity entries": by the shortest of the tables
+unfoldable pub hasRoom : ℕ → ℕ → ℕ → ℕ → Bool
+hasRoom width cap shortest store = leb cap shortest && leb (cap * width) store
+
+unfoldable pub shortestOf : ℕ → ℕ → ℕ → ℕ → ℕ → ℕ → ℕ → ℕ → ℕ
+shortestOf a b c d e f g h = min (min (min a b) (min c d)) (min (min e f) (min g h))
+
+abbrev pub memoryOf : ℕ → ℕ → Tables → Bool
+memoryOf width cap t =
+    hasRoom width cap
+    (shortestOf (length (t .win)) (length (t .free)) (length (t .dues)) (length (t .seqs)) (length (t .arrivals)) (length (t .routes)) (length (t .copyIds)) (length (t .lengths)))
+    (length (t .store))
+
+-- the numbers of the state can stand together
+unfoldable pub inKeeping : ImpairQueue → Bool
+inKeeping q = leb (q .cap) maxCapacity && leb (q .leaves) (q .cap) && leb (q .opened) (q .leaves) && leb (q .held) (q .opened)
+
+-- 23, 21 (the arrival), 22, 27, 25, 26, 28
+unfoldable pub pushRefusal : ℕ → ImpairQueue → Bool → Float → Float → ℕ → ℕ
+pushRefusal width q memory due arrival len =
+    refusalOf memory (isInstantOf arrival) (leb len width) (not (isNan due)) (isCounterOf (q .«next_seq»)) (inKeeping q) (not (eqb (q .held) (q .cap)))
+
+-- 23, 21, 25, 26
+unfoldable pub releaseRefusal : ImpairQueue → Bool → Float → ℕ
+releaseRefusal q memory now = refusalOf memory (isInstantOf now) true true (isCounterOf (q .«next_seq»)) (inKeeping q) true
+
+-- 23, 25, 26
+unfoldable pub stateRefusal : ImpairQueue → Bool → ℕ
+stateRefusal q memory = refusalOf memory true true true (isCounterOf (q .«next_seq»)) (inKeeping q) true

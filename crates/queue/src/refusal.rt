@@ -1,0 +1,102 @@
+// Which refusal meets a call.
+ghost use mathlib.Core.Path.{_≡_};
+ghost use Prim.Native.Nat.{min};
+ghost use Rattle.queue.specs.Refusals.{refusalOf, slotWidth, hasRoom, shortestOf, inKeeping, stateRefusal};
+use crate::queue::ImpairQueue;
+use crate::store::SLOT_WIDTH;
+use numbers::MAX_CAPACITY;
+use numbers::REFUSED_COUNTER;
+use numbers::REFUSED_DUE;
+use numbers::REFUSED_FULL;
+use numbers::REFUSED_INSTANT;
+use numbers::REFUSED_KEEPING;
+use numbers::REFUSED_LENGTH;
+use numbers::REFUSED_MEMORY;
+
+// The number of the first test that fails, in document 01's order, or 0. What was altered is judged before a full queue is told.
+pub(crate) fn refusal(
+    memory: bool,
+    instant: bool,
+    length: bool,
+    due: bool,
+    counter: bool,
+    keeping: bool,
+    space: bool,
+) -> u32
+    ensures { λ r. ⌜ r ≡ refusalOf memory instant length due counter keeping space ⌝ }
+{
+    if !memory {
+        return REFUSED_MEMORY;
+    }
+    if !instant {
+        return REFUSED_INSTANT;
+    }
+    if !length {
+        return REFUSED_LENGTH;
+    }
+    if !due {
+        return REFUSED_DUE;
+    }
+    if !counter {
+        return REFUSED_COUNTER;
+    }
+    if !keeping {
+        return REFUSED_KEEPING;
+    }
+    if !space {
+        return REFUSED_FULL;
+    }
+    0
+}
+
+fn lesser(a: usize, b: usize) -> usize
+    ensures { λ r. ⌜ r ≡ min a b ⌝ }
+{
+    if a < b { a } else { b }
+}
+
+// The shortest of the tables, by their lengths.
+pub(crate) fn shortest(
+    a: usize,
+    b: usize,
+    c: usize,
+    d: usize,
+    e: usize,
+    f: usize,
+    g: usize,
+    h: usize,
+) -> usize
+    ensures { λ r. ⌜ r ≡ shortestOf a b c d e f g h ⌝ }
+{
+    lesser(
+        lesser(lesser(a, b), lesser(c, d)),
+        lesser(lesser(e, f), lesser(g, h)),
+    )
+}
+
+// Whether lent memory has room for a capacity, given the shortest of the tables and the length of the store.
+pub(crate) fn has_room(cap: u32, shortest: usize, store: usize) -> bool
+    ensures { λ r. ⌜ r ≡ hasRoom slotWidth cap shortest store ⌝ }
+{
+    (cap as usize <= shortest) & (cap as usize * SLOT_WIDTH as usize <= store)
+}
+
+impl ImpairQueue {
+    // Whether the numbers of the state can stand together.
+    pub(crate) fn in_keeping(self) -> bool
+        ensures { λ r. ⌜ r ≡ inKeeping self ⌝ }
+    {
+        (self.cap <= MAX_CAPACITY)
+            & (self.leaves <= self.cap)
+            & (self.opened <= self.leaves)
+            & (self.held <= self.opened)
+    }
+
+    // The refusal that memory and state give, or 0, given whether the lent memory has room.
+    pub(crate) fn state_refusal(self, memory: bool) -> u32
+        ensures { λ r. ⌜ r ≡ stateRefusal self memory ⌝ }
+    {
+        let counter = numbers::is_counter(self.next_seq);
+        refusal(memory, true, true, true, counter, self.in_keeping(), true)
+    }
+}

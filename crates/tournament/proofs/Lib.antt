@@ -1,0 +1,4 @@
+pub mod KeySteps
+pub mod WaySteps
+pub mod GrowthSteps
+pub mod CallSteps
