@@ -1,0 +1,198 @@
+-- Each call of crates/queue, on tables and a state that keep a plain queue, says what the plain queue says, and what it leaves keeps what the plain queue
+-- is then. A layer above the queue cites these laws and not the structure behind them.
+use mathlib.Core.Path.{_≡_, refl, sym, ap, _∙_, subst}
+use mathlib.Core.List.{List, [], _∷_}
+use mathlib.Core.Bool.{Bool, true, false, cond, not}
+use Prim.Native.Nat.{ℕ, _^_, _<_, _≤_}
+use native.Mathlib.Omega.{arith}
+use lib.Dec.{leb, eqb}
+use lib.Ieee.{Float, le, isNan}
+use lib.ListN.{length, getD}
+use borrow.Author.Tests.{le-leb, lt-leb, ne-eqb, leb-true, eqb-false}
+use Rattle.numbers.specs.Instant.{isInstantOf}
+use Rattle.numbers.specs.Laws.Both.{both}
+use Rattle.numbers.specs.Laws.Limits.{counter-below}
+use Rattle.numbers.specs.Limits.{maxCapacity, isCounterOf}
+use Rattle.numbers.specs.Refusals.{refusedInstant, refusedLength, refusedCounter, refusedDue, refusedFull}
+use Rattle.numbers.specs.Whole.{whole}
+use Rattle.tournament.specs.Calls.{fitsOf, enterOf, leastOf}
+use Rattle.queue.specs.Tables.{Tables, After, after, treeOf, rowsOf, writtenOf}
+use Rattle.queue.specs.Refusals.{memoryOf, inKeeping, refusalOf, pushRefusal, releaseRefusal, stateRefusal}
+use Rattle.queue.specs.Calls.{nextSlot, notPushed, enteredOf, pushOf, notReleased, leftOf, dueOf, releaseOf, drainOf, dueRefusal, dueAt, nextDueOf, lenOf, isEmptyOf}
+use Rattle.queue.specs.declared.queue.ImpairQueue.{ImpairQueue}
+use Rattle.queue.specs.declared.answers.Released.{Released}
+use Rattle.queue.specs.declared.answers.DueAnswer.the-variants as due
+use Rattle.queue.specs.declared.answers.ReleaseAnswer.the-variants as release
+use Rattle.queue_laws.specs.Held.{Copy, Plain, Step, stepTo, entered, noneDue, drained, refused, pushPlain, releasePlain, releaseLeast, leaveIfDue, drainPlain, leastDue, nextDuePlain}
+use Rattle.queue_laws.specs.Replies.{Said, said, saidByPush, saidByRelease, saidByDrain}
+use Rattle.queue_laws.specs.Laws.Rows.{limit}
+use Rattle.queue_laws.specs.Laws.Keeps.{Keeps, rowOf}
+use Rattle.queue_laws.specs.Laws.Creation.{long-memory, drained-keeps}
+use Rattle.queue_laws.specs.Laws.Push.{next-fits, enter-keeps}
+use Rattle.queue_laws.specs.Laws.Release.{some-held, root-below, root-least, release-keeps}
+
+-- what a call says and leaves agrees with a step of the plain queue
+pub record Agree (width : ℕ) (s : Said) (step : Step) : Type 0 where
+  pub says : s .reply ≡ step .reply
+  pub keeps : Keeps width (s .tables) (s .queue) (step .then)
+
+module _ (width : ℕ) (t : Tables) (q : ImpairQueue) (p : Plain) (k : Keeps width t q p) where
+  -- ---- the refusals: neither the memory nor the keeping fails
+
+  memory-holds : memoryOf width (q .cap) t ≡ true
+  memory-holds = long-memory width (q .cap) t (k .long)
+
+  keeping-holds : inKeeping q ≡ true
+  unfolding inKeeping
+  keeping-holds = both _ _ (both _ _ (both _ _ (le-leb _ _ (k .small)) (le-leb _ _ (k .leaves-in))) (le-leb _ _ (k .opened-in))) (le-leb _ _ (k .held-in))
+
+  same-full : eqb (q .held) (q .cap) ≡ eqb (length (p .held)) (p .cap)
+  same-full = rw (k .count, k .same-cap)
+
+  same-counter : isCounterOf (q .«next_seq») ≡ isCounterOf (p .nextSeq)
+  same-counter = rw (k .same-next)
+
+  push-tests : (due arrival : Float) (len : ℕ) → pushRefusal width q (memoryOf width (q .cap) t) due arrival len
+      ≡ refusalOf true (isInstantOf arrival) (leb len width) (not (isNan due)) (isCounterOf (p .nextSeq)) true (not (eqb (length (p .held)) (p .cap)))
+  unfolding pushRefusal
+  push-tests due arrival len = rw (memory-holds, keeping-holds, same-counter, same-full)
+
+  release-tests : (now : Float) → releaseRefusal q (memoryOf width (q .cap) t) now ≡ refusalOf true (isInstantOf now) true true (isCounterOf (p .nextSeq)) true true
+  unfolding releaseRefusal
+  release-tests now = rw (memory-holds, keeping-holds, same-counter)
+
+  state-tests : stateRefusal q true ≡ refusalOf true true true true (isCounterOf (p .nextSeq)) true true
+  unfolding stateRefusal
+  state-tests = rw (keeping-holds, same-counter)
+
+  -- a refusal, whatever its number
+  refuses : (n : ℕ) → Agree width (said (refused n) q t) (stepTo (refused n) p)
+  refuses n = record { says = refl; keeps = k }
+
+  next-below : isCounterOf (p .nextSeq) ≡ true → q .«next_seq» < limit
+  next-below h = omega (arith, counter-below (p .nextSeq) h, k .same-next)
+
+  -- ---- push
+
+  module _ (due arrival : Float) (route id : ℕ) (bytes : List ℕ) where
+    push-refused : (n : ℕ) → (n ≡ 0 → ⊥) → pushRefusal width q (memoryOf width (q .cap) t) due arrival (length bytes) ≡ n → pushOf width q t due arrival route id bytes ≡ after (notPushed q n) t
+    unfolding pushOf
+    push-refused n some e = rw (e, ne-eqb n 0 some)
+
+    push-enters : pushRefusal width q (memoryOf width (q .cap) t) due arrival (length bytes) ≡ 0 → fitsOf (q .cap) (q .leaves) (nextSlot q (t .free)) ≡ true
+        → pushOf width q t due arrival route id bytes
+        ≡ enteredOf q (enterOf (q .cap) (nextSlot q (t .free)) due (q .«next_seq») (treeOf (q .leaves) t)) (t .free) (writtenOf width (rowsOf t) (nextSlot q (t .free)) arrival route id bytes) (nextSlot q (t .free))
+    unfolding pushOf
+    push-enters e f = rw (e, f)
+
+    -- a push, on any arguments
+    pub push-agrees : Agree width (saidByPush (pushOf width q t due arrival route id bytes)) (pushPlain width p due arrival route id bytes)
+    unfolding pushPlain refusalOf enteredOf
+    push-agrees = go (isInstantOf arrival) refl (leb (length bytes) width) refl (isNan due) refl (isCounterOf (p .nextSeq)) refl (eqb (length (p .held)) (p .cap)) refl
+      where
+        go : (a : Bool) → isInstantOf arrival ≡ a → (b : Bool) → leb (length bytes) width ≡ b → (c : Bool) → isNan due ≡ c → (d : Bool) → isCounterOf (p .nextSeq) ≡ d → (e : Bool) → eqb (length (p .held)) (p .cap) ≡ e
+            → Agree width (saidByPush (pushOf width q t due arrival route id bytes)) (pushPlain width p due arrival route id bytes)
+        go false ea b eb c ec d ed e ee = rw (push-refused refusedInstant (λ z. omega arith) (push-tests due arrival (length bytes) ∙ (rw ea)), ea) (refuses refusedInstant)
+        go true ea false eb c ec d ed e ee = rw (push-refused refusedLength (λ z. omega arith) (push-tests due arrival (length bytes) ∙ (rw (ea, eb))), ea, eb) (refuses refusedLength)
+        go true ea true eb true ec d ed e ee = rw (push-refused refusedDue (λ z. omega arith) (push-tests due arrival (length bytes) ∙ (rw (ea, eb, ec))), ea, eb, ec) (refuses refusedDue)
+        go true ea true eb false ec false ed e ee = rw (push-refused refusedCounter (λ z. omega arith) (push-tests due arrival (length bytes) ∙ (rw (ea, eb, ec, ed))), ea, eb, ec, ed) (refuses refusedCounter)
+        go true ea true eb false ec true ed true ee = rw (push-refused refusedFull (λ z. omega arith) (push-tests due arrival (length bytes) ∙ (rw (ea, eb, ec, ed, ee))), ea, eb, ec, ed, ee) (refuses refusedFull)
+        go true ea true eb false ec true ed false ee =
+            let room : q .held < q .cap = omega (arith, k .held-in, k .opened-in, k .leaves-in, k .count, k .same-cap, eqb-false (length (p .held)) (p .cap) ee) in
+            rw (push-enters (push-tests due arrival (length bytes) ∙ (rw (ea, eb, ec, ed, ee))) (next-fits width t q p k room), ea, eb, ec, ed, ee)
+            (record { says = ap entered (k .same-next); keeps = enter-keeps width t q p k room due arrival route id bytes ec (leb-true _ _ eb) (next-below ed) })
+
+  -- ---- release
+
+  abbrev root : ℕ
+  root = leastOf (t .win) (q .leaves)
+
+  -- what a release gives where the root's slot is in the tree, by whether its due has come
+  abbrev byDue : Bool → After Released
+  byDue b = cond b (leftOf q t root) (notReleased q release.NoneDue t)
+
+  -- where some copy is held, the root is a slot in use
+  module _ (c : Copy) (l : List Copy) (e : p .held ≡ c ∷ l) where
+    not-empty : eqb (q .held) 0 ≡ false
+    not-empty = ne-eqb (q .held) 0 (λ z. omega (arith, some-held width t q p k c l e))
+
+    in-tree : leb (q .leaves) root ≡ false
+    in-tree = lt-leb (q .leaves) root (root-below width t q p k c l e)
+
+  module _ (now : Float) where
+    release-refused : (n : ℕ) → (n ≡ 0 → ⊥) → releaseRefusal q (memoryOf width (q .cap) t) now ≡ n → releaseOf width q t now ≡ notReleased q (release.Refused n) t
+    unfolding releaseOf
+    release-refused n some e = rw (e, ne-eqb n 0 some)
+
+    release-empty : releaseRefusal q (memoryOf width (q .cap) t) now ≡ 0 → q .held ≡ 0 → releaseOf width q t now ≡ notReleased q release.NoneDue t
+    unfolding releaseOf
+    release-empty e z = rw (e, z)
+
+    release-root : releaseRefusal q (memoryOf width (q .cap) t) now ≡ 0 → (c : Copy) (l : List Copy) (e : p .held ≡ c ∷ l)
+        → releaseOf width q t now ≡ byDue (le (getD (t .dues) root (whole 0)) now)
+    unfolding releaseOf dueOf
+    release-root z c l e = rw (z, not-empty c l e, in-tree c l e)
+
+    -- a release, at any instant
+    pub release-agrees : Agree width (saidByRelease width (releaseOf width q t now)) (releasePlain p now)
+    unfolding releasePlain releaseLeast leaveIfDue refusalOf leftOf
+    release-agrees = go (isInstantOf now) refl (isCounterOf (p .nextSeq)) refl (p .held) refl
+      where
+        due-or-not : (c : Copy) (l : List Copy) (e : p .held ≡ c ∷ l) (b : Bool) → le (getD (t .dues) root (whole 0)) now ≡ b
+            → Agree width (saidByRelease width (byDue b)) (leaveIfDue p now (rowOf width t root))
+        due-or-not c l e true h = rw h (record { says = refl; keeps = release-keeps width t q p k c l e })
+        due-or-not c l e false h = rw h (record { says = refl; keeps = k })
+
+        go : (a : Bool) → isInstantOf now ≡ a → (b : Bool) → isCounterOf (p .nextSeq) ≡ b → (h : List Copy) → p .held ≡ h → Agree width (saidByRelease width (releaseOf width q t now)) (releasePlain p now)
+        go false ea b eb h eh = rw (release-refused refusedInstant (λ z. omega arith) (release-tests now ∙ (rw ea)), ea) (refuses refusedInstant)
+        go true ea false eb h eh = rw (release-refused refusedCounter (λ z. omega arith) (release-tests now ∙ (rw (ea, eb))), ea, eb) (refuses refusedCounter)
+        go true ea true eb [] eh = rw (release-empty (release-tests now ∙ (rw (ea, eb))) (k .count ∙ ap length eh), ea, eb)
+            (subst (λ (h : List Copy). Agree width (said noneDue q t) (releaseLeast p now h)) (sym eh) (record { says = refl; keeps = k }))
+        go true ea true eb (c ∷ l) eh = rw (release-root (release-tests now ∙ (rw (ea, eb))) c l eh, ea, eb)
+            (subst (λ (h : List Copy). Agree width (saidByRelease width (byDue (le (getD (t .dues) root (whole 0)) now))) (releaseLeast p now h)) (sym eh)
+            (subst (λ (x : Copy). Agree width (saidByRelease width (byDue (le (getD (t .dues) root (whole 0)) now))) (leaveIfDue p now x)) (sym (root-least width t q p k c l eh)) (due-or-not c l eh (le (getD (t .dues) root (whole 0)) now) refl)))
+
+  -- ---- drain
+
+  pub drain-agrees : Agree width (saidByDrain t (drainOf q)) (drainPlain p)
+  unfolding drainOf drainPlain refusalOf
+  drain-agrees = go (isCounterOf (p .nextSeq)) refl
+    where
+      go : (b : Bool) → isCounterOf (p .nextSeq) ≡ b → Agree width (saidByDrain t (drainOf q)) (drainPlain p)
+      go false e = rw (state-tests, e) (refuses refusedCounter)
+      go true e = rw (state-tests, e) (record { says = ap drained (k .count); keeps = drained-keeps width t q p k })
+
+  -- ---- questions
+
+  due-tests : dueRefusal q (length (t .win)) (length (t .dues)) ≡ refusalOf true true true true (isCounterOf (p .nextSeq)) true true
+  unfolding dueRefusal
+  due-tests = rw (le-leb (q .cap) (length (t .win)) (k .long .win), le-leb (q .cap) (length (t .dues)) (k .long .dues)) state-tests
+
+  -- the least due that is held
+  pub due-agrees : nextDueOf q (t .win) (t .dues) ≡ nextDuePlain p
+  unfolding nextDueOf nextDuePlain leastDue dueAt refusalOf
+  due-agrees = go (isCounterOf (p .nextSeq)) refl (p .held) refl
+    where
+      go : (b : Bool) → isCounterOf (p .nextSeq) ≡ b → (h : List Copy) → p .held ≡ h → nextDueOf q (t .win) (t .dues) ≡ nextDuePlain p
+      go false e h eh = rw (due-tests, e)
+      go true e [] eh =
+          let none : q .held ≡ 0 = k .count ∙ ap length eh in
+          rw (due-tests, e, none, eh)
+      go true e (c ∷ l) eh = rw (due-tests, e, not-empty c l eh, in-tree c l eh, eh) (ap (λ (x : Copy). due.Due (x .due)) (sym (root-least width t q p k c l eh)))
+
+  -- the number of copies that are held
+  pub len-agrees : lenOf q ≡ length (p .held)
+  len-agrees = k .count
+
+  pub empty-agrees : isEmptyOf q ≡ eqb (length (p .held)) 0
+  empty-agrees = ap (λ (n : ℕ). eqb n 0) (k .count)
+
+  -- no more copies are held than the capacity, which is at most 1,048,576, and the next seq is at most 2 ^ 60
+  pub held-within : length (p .held) ≤ p .cap
+  held-within = omega (arith, k .count, k .held-in, k .opened-in, k .leaves-in, k .same-cap)
+
+  pub cap-within : p .cap ≤ maxCapacity
+  cap-within = omega (arith, k .small, k .same-cap)
+
+  pub next-within : p .nextSeq ≤ 2 ^ 60
+  next-within = omega (arith, k .next-in, k .same-next)

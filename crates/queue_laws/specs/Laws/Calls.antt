@@ -1,0 +1,43 @@
+-- What a call does to a tree that it does not leave as it is.
+use mathlib.Core.Path.{_≡_}
+use mathlib.Core.Bool.{true, _&&_}
+use Prim.Native.Nat.{ℕ, _<_, _≤_}
+use lib.Dec.{leb, ltb}
+use lib.Ieee.{Float}
+use borrow.Author.Tests.{lt-ltb, le-ltb, le-leb, lt-leb, ltb-true, leb-true}
+use Rattle.numbers.specs.Laws.Both.{both-true}
+use Rattle.numbers.specs.Limits.{maxCapacity}
+use Rattle.tournament.specs.Growth.{Tree, widenedOf}
+use Rattle.tournament.specs.Calls.{fitsOf, placedOf, enterOf, freedOf, leaveOf}
+
+-- the slot can enter a tree with n leaves
+pub record CanEnter (cap n slot : ℕ) : Type 0 where
+  pub capacity : cap ≤ maxCapacity
+  pub leaves : n ≤ cap
+  pub below : slot < cap
+  pub next : slot ≤ n
+
+-- what the test says where it is true
+pub fits-true : (cap n slot : ℕ) → fitsOf cap n slot ≡ true → CanEnter cap n slot
+unfolding fitsOf
+fits-true cap n slot h =
+    let abc = both-true (leb cap maxCapacity && leb n cap && ltb slot cap) (leb slot n) h in
+    let ab = both-true (leb cap maxCapacity && leb n cap) (ltb slot cap) (abc .0) in
+    let a = both-true (leb cap maxCapacity) (leb n cap) (ab .0) in
+    record { capacity = leb-true cap maxCapacity (a .0); leaves = leb-true n cap (a .1); below = ltb-true slot cap (ab .1); next = leb-true slot n (abc .1) }
+
+-- when the test is true
+pub true-fits : (cap n slot : ℕ) → cap ≤ maxCapacity → n ≤ cap → slot < cap → slot ≤ n → fitsOf cap n slot ≡ true
+unfolding fitsOf
+true-fits cap n slot a b c d = rw (le-leb cap maxCapacity a, le-leb n cap b, lt-ltb slot cap c, le-leb slot n d)
+
+-- a slot that can enter is placed in the tree that has a leaf for it
+pub enter-is : (cap slot : ℕ) (due : Float) (seq : ℕ) (t : Tree) → fitsOf cap (t .leaves) slot ≡ true
+    → enterOf cap slot due seq t ≡ placedOf (widenedOf cap (t .leaves) slot t) slot due seq
+unfolding enterOf
+enter-is cap slot due seq t h = rw h
+
+-- a slot that has a leaf gets the key of a free one
+pub leave-is : (slot : ℕ) (t : Tree) → t .leaves ≤ maxCapacity → slot < t .leaves → leaveOf slot t ≡ freedOf t slot
+unfolding leaveOf
+leave-is slot t h k = rw (le-ltb maxCapacity (t .leaves) h, lt-leb (t .leaves) slot k)

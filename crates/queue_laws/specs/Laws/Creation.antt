@@ -1,0 +1,126 @@
+-- A queue that was created or drained holds nothing, on any lent memory that is long enough: no table is read or written.
+use mathlib.Core.Path.{_≡_, refl, subst}
+use mathlib.Core.Logic.{_⊎_, inl, inr}
+use mathlib.Core.List.{[]}
+use mathlib.Core.Bool.{Bool, true, false, cond, not, _&&_}
+use Prim.Native.Nat.{ℕ, _-_, _*_, _<_, _≤_, min}
+use native.Mathlib.Omega.{arith}
+use lib.Dec.{leb}
+use lib.ListN.{length, getD}
+use borrow.Author.Tests.{le-leb, lt-leb, leb-true}
+use Rattle.numbers.specs.Laws.Both.{both, both-true}
+use Rattle.numbers.specs.Limits.{maxCapacity}
+use Rattle.numbers.specs.Refusals.{refusedMemory, refusedCapacity}
+use Rattle.queue.specs.Tables.{Tables}
+use Rattle.queue.specs.Refusals.{memoryOf, hasRoom, shortestOf}
+use Rattle.queue.specs.Calls.{fresh, notCreated, createOf}
+use Rattle.queue.specs.declared.queue.ImpairQueue.{ImpairQueue}
+use Rattle.queue.specs.declared.answers.Created.{Created}
+use Rattle.queue.specs.declared.answers.CreateAnswer.the-variants as create
+use Rattle.queue_laws.specs.Held.{Copy, Plain, plain}
+use Rattle.queue_laws.specs.Laws.Rows.{none, limit, view, Perm}
+use Rattle.queue_laws.specs.Laws.Keeps.{Keeps, Long, rowOf}
+
+no-rows : (row : ℕ → Copy) → Perm [] (view row 0)
+unfolding view
+no-rows row = none
+
+-- nothing is held, and no slot was used
+pub nothing-held : (width cap : ℕ) (t : Tables) (next : ℕ) → 0 < cap → cap ≤ maxCapacity → Long width cap t → next ≤ limit → Keeps width t (fresh cap next) (plain cap [] next)
+nothing-held width cap t next pos small long next-in = record {
+  pos = pos;
+  small = small;
+  long = long;
+  next-in = next-in;
+  held-in = omega arith;
+  opened-in = omega arith;
+  leaves-in = omega arith;
+  good = λ (i : ℕ) (p : 0 < i) (b : i < 0). absurd (omega arith);
+  slots = λ (s : ℕ) (b : s < 0). absurd (omega arith);
+  unused = λ (s : ℕ) (a : 0 ≤ s) (b : s < 0). absurd (omega arith);
+  uniq = λ (s x : ℕ) (a : s < 0) (b : x < 0) (u : getD (t .seqs) s 0 < limit) (e : getD (t .seqs) x 0 ≡ getD (t .seqs) s 0). absurd (omega arith);
+  open-low = λ (j : ℕ) (b : j < 0 - 0). absurd (omega arith);
+  open-dead = λ (j : ℕ) (b : j < 0 - 0). absurd (omega arith);
+  apart = λ (i j : ℕ) (a : i < 0 - 0) (b : j < 0 - 0) (e : getD (t .free) i 0 ≡ getD (t .free) j 0). absurd (omega arith);
+  count = refl;
+  same-next = refl;
+  same-cap = refl;
+  same = no-rows (rowOf width t);
+}
+
+-- a queue that is drained holds nothing
+pub drained-keeps : (width : ℕ) (t : Tables) (q : ImpairQueue) (p : Plain) → Keeps width t q p → Keeps width t (fresh (q .cap) (q .«next_seq»)) (plain (p .cap) [] (p .nextSeq))
+drained-keeps width t q p k =
+    subst (λ (c : ℕ). Keeps width t (fresh (q .cap) (q .«next_seq»)) (plain c [] (p .nextSeq))) (k .same-cap)
+    (subst (λ (x : ℕ). Keeps width t (fresh (q .cap) (q .«next_seq»)) (plain (q .cap) [] x)) (k .same-next)
+    (nothing-held width (q .cap) t (q .«next_seq») (k .pos) (k .small) (k .long) (k .next-in)))
+
+-- ---- the test of the memory
+
+le-min : (c a b : ℕ) → c ≤ a → c ≤ b → c ≤ min a b
+le-min c a b h k = omega arith
+
+min-le : (c a b : ℕ) → c ≤ min a b → (c ≤ a) × (c ≤ b)
+min-le c a b h = (omega arith, omega arith)
+
+-- the test is true exactly for memory that is long enough
+pub long-memory : (width cap : ℕ) (t : Tables) → Long width cap t → memoryOf width cap t ≡ true
+unfolding hasRoom shortestOf
+long-memory width cap t l =
+    both _ _
+    (le-leb _ _ (le-min _ _ _
+    (le-min _ _ _ (le-min _ _ _ (l .win) (l .free)) (le-min _ _ _ (l .dues) (l .seqs)))
+    (le-min _ _ _ (le-min _ _ _ (l .arrivals) (l .routes)) (le-min _ _ _ (l .copyIds) (l .lengths)))))
+    (le-leb _ _ (l .store))
+
+pub memory-long : (width cap : ℕ) (t : Tables) → memoryOf width cap t ≡ true → Long width cap t
+unfolding hasRoom shortestOf
+memory-long width cap t h =
+    let two = both-true (leb cap (shortestOf (length (t .win)) (length (t .free)) (length (t .dues)) (length (t .seqs)) (length (t .arrivals)) (length (t .routes)) (length (t .copyIds)) (length (t .lengths)))) (leb (cap * width) (length (t .store))) h in
+    let all = min-le cap (min (min (length (t .win)) (length (t .free))) (min (length (t .dues)) (length (t .seqs)))) (min (min (length (t .arrivals)) (length (t .routes))) (min (length (t .copyIds)) (length (t .lengths)))) (leb-true cap _ (two .0)) in
+    let keys = min-le cap (min (length (t .win)) (length (t .free))) (min (length (t .dues)) (length (t .seqs))) (all .0) in
+    let rest = min-le cap (min (length (t .arrivals)) (length (t .routes))) (min (length (t .copyIds)) (length (t .lengths))) (all .1) in
+    let a = min-le cap (length (t .win)) (length (t .free)) (keys .0) in
+    let b = min-le cap (length (t .dues)) (length (t .seqs)) (keys .1) in
+    let c = min-le cap (length (t .arrivals)) (length (t .routes)) (rest .0) in
+    let d = min-le cap (length (t .copyIds)) (length (t .lengths)) (rest .1) in
+    record { win = a .0; free = a .1; dues = b .0; seqs = b .1; arrivals = c .0; routes = c .1; copyIds = d .0; lengths = d .1; store = leb-true (cap * width) (length (t .store)) (two .1) }
+
+short-memory : (width cap : ℕ) (t : Tables) → (Long width cap t → ⊥) → memoryOf width cap t ≡ false
+short-memory width cap t lacks = go (memoryOf width cap t) refl
+  where
+    go : (b : Bool) → memoryOf width cap t ≡ b → b ≡ false
+    go true e = absurd (lacks (memory-long width cap t e))
+    go false e = refl
+
+-- ---- creation: the three cases, of which exactly one holds
+
+-- 24: the capacity is out of range
+pub create-capacity : (width cap : ℕ) (t : Tables) → (cap < 1) ⊎ (maxCapacity < cap) → createOf width cap t ≡ notCreated refusedCapacity
+unfolding createOf
+create-capacity width cap t (inl h) = rw (lt-leb 1 cap h)
+create-capacity width cap t (inr h) = rw (le-leb 1 cap (omega arith), lt-leb cap maxCapacity h)
+
+-- 23: the memory is too short
+pub create-memory : (width cap : ℕ) (t : Tables) → 0 < cap → cap ≤ maxCapacity → (Long width cap t → ⊥) → createOf width cap t ≡ notCreated refusedMemory
+unfolding createOf
+create-memory width cap t pos small lacks = rw (le-leb 1 cap pos, le-leb cap maxCapacity small, short-memory width cap t lacks)
+
+-- else it is created
+pub create-made : (width cap : ℕ) (t : Tables) → 0 < cap → cap ≤ maxCapacity → Long width cap t → createOf width cap t ≡ record { queue = fresh cap 0; answer = create.Created }
+unfolding createOf
+create-made width cap t pos small long = rw (le-leb 1 cap pos, le-leb cap maxCapacity small, long-memory width cap t long)
+
+-- a creation that was not refused: the queue holds nothing, on any lent memory
+pub create-keeps : (width cap : ℕ) (t : Tables) → createOf width cap t .answer ≡ create.Created → Keeps width t (createOf width cap t .queue) (plain cap [] 0)
+unfolding createOf
+create-keeps width cap t = go (leb 1 cap && leb cap maxCapacity) refl (memoryOf width cap t) refl
+  where
+    go : (a : Bool) → (leb 1 cap && leb cap maxCapacity) ≡ a → (b : Bool) → memoryOf width cap t ≡ b
+        → cond (not a) (notCreated refusedCapacity) (cond (not b) (notCreated refusedMemory) (record { queue = fresh cap 0; answer = create.Created })) .answer ≡ create.Created
+        → Keeps width t (cond (not a) (notCreated refusedCapacity) (cond (not b) (notCreated refusedMemory) (record { queue = fresh cap 0; answer = create.Created })) .queue) (plain cap [] 0)
+    go false ea b eb h = absurd (let z : _≡_ {A = ℕ} 0 1 = cc in omega arith)
+    go true ea false eb h = absurd (let z : _≡_ {A = ℕ} 0 1 = cc in omega arith)
+    go true ea true eb h =
+        let range = both-true (leb 1 cap) (leb cap maxCapacity) ea in
+        nothing-held width cap t 0 (leb-true 1 cap (range .0)) (leb-true cap maxCapacity (range .1)) (memory-long width cap t eb) (omega arith)

@@ -1,0 +1,120 @@
+-- Which refusals meet a queue that keeps a plain queue: neither 23 nor 26, and 28 exactly where as many copies are held as the capacity.
+use mathlib.Core.Path.{_≡_, sym, _∙_}
+use mathlib.Core.Logic.{_≢_}
+use mathlib.Core.List.{List, [], _∷_}
+use mathlib.Core.Bool.{Bool, true, false, cond, not}
+use Prim.Native.Nat.{ℕ, _≤_}
+use native.Mathlib.Omega.{arith}
+use lib.Dec.{leb, eqb, eqb→eq}
+use lib.Ieee.{Float, le, isNan}
+use lib.ListN.{length}
+use borrow.Author.Tests.{eq-eqb, le-leb}
+use Rattle.numbers.specs.Instant.{isInstantOf}
+use Rattle.numbers.specs.Laws.NotNan.{cond-has, cond-when}
+use Rattle.numbers.specs.Limits.{isCounterOf}
+use Rattle.numbers.specs.Refusals.{refusedInstant, refusedLength, refusedMemory, refusedCounter, refusedKeeping, refusedDue, refusedFull}
+use Rattle.queue.specs.Tables.{Tables}
+use Rattle.queue.specs.Calls.{pushOf, nextDueOf}
+use Rattle.queue.specs.declared.queue.ImpairQueue.{ImpairQueue}
+use Rattle.queue.specs.declared.answers.DueAnswer.the-variants as due
+use Rattle.queue_laws.specs.Held.{Copy, Plain, Step, stepTo, Call, push, release, drain, entered, released, noneDue, drained, refused, least, pushPlain, releasePlain, releaseLeast, leaveIfDue, drainPlain, leastDue, nextDuePlain, step}
+use Rattle.queue_laws.specs.Replies.{answerTo, saidByPush}
+use Rattle.queue_laws.specs.Laws.Keeps.{Keeps}
+use Rattle.queue_laws.specs.Laws.Agree.{push-agrees, due-agrees}
+use Rattle.queue_laws.specs.Laws.Runs.{call-agrees}
+
+-- a refusal that is neither 23 nor 26
+abbrev pub Neither : ℕ → Type 0
+Neither n = (n ≢ refusedMemory) × (n ≢ refusedKeeping)
+
+-- a step whose refusals are so
+abbrev Clear : Step → Type 0
+Clear s = (n : ℕ) → s .reply ≡ refused n → Neither n
+
+clear-refused : (m : ℕ) (p : Plain) → Neither m → Clear (stepTo (refused m) p)
+clear-refused m p h n e = let z : m ≡ n = cc in ((λ (a : n ≡ refusedMemory). h .0 (z ∙ a)), (λ (a : n ≡ refusedKeeping). h .1 (z ∙ a)))
+
+clear-none : (p : Plain) → Clear (stepTo noneDue p)
+clear-none p n e = let z : _≡_ {A = ℕ} 0 1 = cc in absurd (omega arith)
+
+push-clear : (width : ℕ) (p : Plain) (due arrival : Float) (route id : ℕ) (bytes : List ℕ) → Clear (pushPlain width p due arrival route id bytes)
+unfolding pushPlain
+push-clear width p due arrival route id bytes =
+    cond-has Clear (not (isInstantOf arrival)) (clear-refused refusedInstant p ((λ z. omega arith), λ z. omega arith))
+    (cond-has Clear (not (leb (length bytes) width)) (clear-refused refusedLength p ((λ z. omega arith), λ z. omega arith))
+    (cond-has Clear (isNan due) (clear-refused refusedDue p ((λ z. omega arith), λ z. omega arith))
+    (cond-has Clear (not (isCounterOf (p .nextSeq))) (clear-refused refusedCounter p ((λ z. omega arith), λ z. omega arith))
+    (cond-has Clear (eqb (length (p .held)) (p .cap)) (clear-refused refusedFull p ((λ z. omega arith), λ z. omega arith))
+    (λ (n : ℕ) (e : entered (p .nextSeq) ≡ refused n). let z : _≡_ {A = ℕ} 0 1 = cc in absurd (omega arith))))))
+
+leave-clear : (p : Plain) (now : Float) (c : Copy) → Clear (leaveIfDue p now c)
+unfolding leaveIfDue
+leave-clear p now c = cond-has Clear (le (c .due) now) (λ (n : ℕ) (e : released c ≡ refused n). let z : _≡_ {A = ℕ} 0 1 = cc in absurd (omega arith)) (clear-none p)
+
+least-clear : (p : Plain) (now : Float) (l : List Copy) → Clear (releaseLeast p now l)
+unfolding releaseLeast
+least-clear p now [] = clear-none p
+least-clear p now (c ∷ l) = leave-clear p now (least c l)
+
+release-clear : (p : Plain) (now : Float) → Clear (releasePlain p now)
+unfolding releasePlain
+release-clear p now =
+    cond-has Clear (not (isInstantOf now)) (clear-refused refusedInstant p ((λ z. omega arith), λ z. omega arith))
+    (cond-has Clear (not (isCounterOf (p .nextSeq))) (clear-refused refusedCounter p ((λ z. omega arith), λ z. omega arith))
+    (least-clear p now (p .held)))
+
+drain-clear : (p : Plain) → Clear (drainPlain p)
+unfolding drainPlain
+drain-clear p =
+    cond-has Clear (not (isCounterOf (p .nextSeq))) (clear-refused refusedCounter p ((λ z. omega arith), λ z. omega arith))
+    (λ (n : ℕ) (e : drained (length (p .held)) ≡ refused n). let z : _≡_ {A = ℕ} 0 1 = cc in absurd (omega arith))
+
+step-clear : (width : ℕ) (p : Plain) (c : Call) → Clear (step width p c)
+unfolding step
+step-clear width p (push due arrival route id bytes) = push-clear width p due arrival route id bytes
+step-clear width p (release now) = release-clear p now
+step-clear width p drain = drain-clear p
+
+-- no call is refused with 23 or 26
+pub never-refused : (width : ℕ) (t : Tables) (q : ImpairQueue) (p : Plain) → Keeps width t q p → (c : Call) (n : ℕ) → answerTo width q t c .reply ≡ refused n → Neither n
+never-refused width t q p k c n e = step-clear width p c n (sym (call-agrees width t q p k c .says) ∙ e)
+
+-- nor is the question for the next due, whose one refusal is 25
+pub due-refused : (width : ℕ) (t : Tables) (q : ImpairQueue) (p : Plain) → Keeps width t q p → (n : ℕ) → nextDueOf q (t .win) (t .dues) ≡ due.Refused n → n ≡ refusedCounter
+unfolding nextDuePlain leastDue
+due-refused width t q p k n e = go (isCounterOf (p .nextSeq)) (p .held) (sym (due-agrees width t q p k) ∙ e)
+  where
+    go : (b : Bool) (l : List Copy) → cond (not b) (due.Refused refusedCounter) (leastDue l) ≡ due.Refused n → n ≡ refusedCounter
+    go false l h = cc
+    go true [] h = let z : _≡_ {A = ℕ} 0 1 = cc in absurd (omega arith)
+    go true (c ∷ l) h = let z : _≡_ {A = ℕ} 0 1 = cc in absurd (omega arith)
+
+-- 28 comes only where as many copies are held as the capacity
+module _ (width : ℕ) (t : Tables) (q : ImpairQueue) (p : Plain) (k : Keeps width t q p) (due arrival : Float) (route id : ℕ) (bytes : List ℕ) where
+  abbrev Full : Step → Type 0
+  Full s = s .reply ≡ refused refusedFull → length (p .held) ≡ p .cap
+
+  other-number : (m : ℕ) → m ≢ refusedFull → Full (stepTo (refused m) p)
+  other-number m h e = let z : m ≡ refusedFull = cc in absurd (h z)
+
+  plain-full : Full (pushPlain width p due arrival route id bytes)
+  unfolding pushPlain
+  plain-full =
+      cond-has Full (not (isInstantOf arrival)) (other-number refusedInstant (λ z. omega arith))
+      (cond-has Full (not (leb (length bytes) width)) (other-number refusedLength (λ z. omega arith))
+      (cond-has Full (isNan due) (other-number refusedDue (λ z. omega arith))
+      (cond-has Full (not (isCounterOf (p .nextSeq))) (other-number refusedCounter (λ z. omega arith))
+      (cond-when Full (eqb (length (p .held)) (p .cap)) (λ h e. eqb→eq (length (p .held)) (p .cap) h)
+      (λ (e : entered (p .nextSeq) ≡ refused refusedFull). let z : _≡_ {A = ℕ} 0 1 = cc in absurd (omega arith))))))
+
+  pub full-only : saidByPush (pushOf width q t due arrival route id bytes) .reply ≡ refused refusedFull → length (p .held) ≡ p .cap
+  full-only e = plain-full (sym (push-agrees width t q p k due arrival route id bytes .says) ∙ e)
+
+  -- and there it comes, for a copy that meets no other refusal
+  pub full-refused : isInstantOf arrival ≡ true → length bytes ≤ width → isNan due ≡ false → isCounterOf (p .nextSeq) ≡ true → length (p .held) ≡ p .cap
+      → saidByPush (pushOf width q t due arrival route id bytes) .reply ≡ refused refusedFull
+  unfolding pushPlain
+  full-refused a b c d e = push-agrees width t q p k due arrival route id bytes .says ∙ plain-is
+    where
+      plain-is : pushPlain width p due arrival route id bytes .reply ≡ refused refusedFull
+      plain-is = rw (a, le-leb (length bytes) width b, c, d, eq-eqb (length (p .held)) (p .cap) e)

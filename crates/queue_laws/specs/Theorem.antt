@@ -1,0 +1,148 @@
+-- THE THEOREM over what the functions of crates/queue themselves ensure: for every list of calls on a queue that `create` made, over any lent memory, each
+-- call answered and each table left as the contract of `push`, `release` or `drain` says, the replies are the plain queue's.
+use mathlib.Core.Path.{_≡_, refl, sym, ap, _∙_}
+use mathlib.Core.List.{List, [], _∷_}
+use Prim.Native.Nat.{ℕ}
+use lib.Ieee.{Float}
+use denote.Ref.{now}
+use contract.Lifetimes
+use borrow.Fn.World
+use borrow.Fn.Kinds as Kinds'
+use denote.Triple.Clauses
+use Rattle.queue.specs.Tables.{Tables, tables, After, after}
+use Rattle.queue.specs.Refusals.{slotWidth}
+use Rattle.queue.specs.Calls.{createOf, pushOf, releaseOf, drainOf}
+use Rattle.queue.specs.declared.queue.ImpairQueue.{ImpairQueue}
+use Rattle.queue.specs.declared.answers.Created.{Created}
+use Rattle.queue.specs.declared.answers.CreateAnswer.the-variants as created
+use Rattle.queue.specs.declared.answers.Pushed.{Pushed}
+use Rattle.queue.specs.declared.answers.Released.{Released}
+use Rattle.queue.specs.declared.answers.Drained.{Drained}
+use Rattle.queue.proofs.queue.ImpairQueue.create as create-fn
+use Rattle.queue.proofs.queue.ImpairQueue.create.Reads as create
+use Rattle.queue.proofs.queue.ImpairQueue.create.Kinds as create-kinds
+use Rattle.queue.proofs.queue.ImpairQueue.push as push-fn
+use Rattle.queue.proofs.queue.ImpairQueue.push.Reads as push
+use Rattle.queue.proofs.queue.ImpairQueue.push.Kinds as push-kinds
+use Rattle.queue.proofs.queue.ImpairQueue.release as release-fn
+use Rattle.queue.proofs.queue.ImpairQueue.release.Reads as release
+use Rattle.queue.proofs.queue.ImpairQueue.release.Kinds as release-kinds
+use Rattle.queue.proofs.queue.ImpairQueue.drain as drain-fn
+use Rattle.queue.proofs.queue.ImpairQueue.drain.Reads as drain
+use Rattle.queue.proofs.queue.ImpairQueue.drain.Kinds as drain-kinds
+use Rattle.queue_laws.specs.Held.{Call, push as pushCall, release as releaseCall, drain as drainCall, Reply, plain, run}
+use Rattle.queue_laws.specs.Replies.{saidOfPush, saidOfRelease, saidOfDrain, saidByPush, saidByRelease, saidByDrain, answerTo, answersTo}
+use Rattle.queue_laws.specs.Laws.Runs.{created-agrees}
+
+-- ---- the tables that a call begins with, and those that it leaves: what is lent to be read stays
+
+abbrev pub createTables : (κs : Lifetimes.Lfts 9) → World.ArgsD create-fn.signature κs → Tables
+createTables κs a =
+    tables (now (a .1 .0)) (now (a .1 .1 .0)) (now (a .1 .1 .1 .0)) (now (a .1 .1 .1 .1 .0))
+    (now (a .1 .1 .1 .1 .1 .0)) (now (a .1 .1 .1 .1 .1 .1 .0)) (now (a .1 .1 .1 .1 .1 .1 .1 .0))
+    (now (a .1 .1 .1 .1 .1 .1 .1 .1 .0)) (now (a .1 .1 .1 .1 .1 .1 .1 .1 .1 .0))
+
+abbrev pub pushTables : (κs : Lifetimes.Lfts 10) → World.ArgsD push-fn.signature κs → Tables
+pushTables κs a =
+    tables (now (a .1 .0)) (now (a .1 .1 .0)) (now (a .1 .1 .1 .0)) (now (a .1 .1 .1 .1 .0))
+    (now (a .1 .1 .1 .1 .1 .0)) (now (a .1 .1 .1 .1 .1 .1 .0)) (now (a .1 .1 .1 .1 .1 .1 .1 .0))
+    (now (a .1 .1 .1 .1 .1 .1 .1 .1 .0)) (now (a .1 .1 .1 .1 .1 .1 .1 .1 .1 .0))
+
+abbrev pub pushLeaves : (κs : Lifetimes.Lfts 10) → World.ArgsD push-fn.signature κs → Clauses.AtExit (Kinds'.endedOf 10 push-kinds.ps push-kinds.r) κs → Tables
+pushLeaves κs a s =
+    tables (now (s .1 .0)) (now (a .1 .1 .0)) (now (s .1 .1 .1 .0)) (now (s .1 .1 .1 .1 .0))
+    (now (s .1 .1 .1 .1 .1 .0)) (now (s .1 .1 .1 .1 .1 .1 .0)) (now (s .1 .1 .1 .1 .1 .1 .1 .0))
+    (now (s .1 .1 .1 .1 .1 .1 .1 .1 .0)) (now (s .1 .1 .1 .1 .1 .1 .1 .1 .1 .0))
+
+abbrev pub releaseTables : (κs : Lifetimes.Lfts 9) → World.ArgsD release-fn.signature κs → Tables
+releaseTables κs a =
+    tables (now (a .1 .0)) (now (a .1 .1 .0)) (now (a .1 .1 .1 .0)) (now (a .1 .1 .1 .1 .0))
+    (now (a .1 .1 .1 .1 .1 .0)) (now (a .1 .1 .1 .1 .1 .1 .0)) (now (a .1 .1 .1 .1 .1 .1 .1 .0))
+    (now (a .1 .1 .1 .1 .1 .1 .1 .1 .0)) (now (a .1 .1 .1 .1 .1 .1 .1 .1 .1 .0))
+
+abbrev pub releaseLeaves : (κs : Lifetimes.Lfts 9) → World.ArgsD release-fn.signature κs → Clauses.AtExit (Kinds'.endedOf 9 release-kinds.ps release-kinds.r) κs → Tables
+releaseLeaves κs a s =
+    tables (now (s .1 .0)) (now (s .1 .1 .0)) (now (s .1 .1 .1 .0)) (now (s .1 .1 .1 .1 .0))
+    (now (a .1 .1 .1 .1 .1 .0)) (now (a .1 .1 .1 .1 .1 .1 .0)) (now (a .1 .1 .1 .1 .1 .1 .1 .0))
+    (now (a .1 .1 .1 .1 .1 .1 .1 .1 .0)) (now (a .1 .1 .1 .1 .1 .1 .1 .1 .1 .0))
+
+-- ---- calls: `Learnt` is what the function's contract ensures of its arguments, its result and the tables at exit
+
+-- a call of `create` with the capacity cap, over the tables t, returned r
+pub data Creates (cap : ℕ) (t : Tables) : Created → Type 1 where
+  called : (κs : Lifetimes.Lfts 9) (a : World.ArgsD create-fn.signature κs) (r : World.ResD create-fn.signature κs) (s : Clauses.AtExit (Kinds'.endedOf 9 create-kinds.ps create-kinds.r) κs)
+      → a .0 ≡ cap → createTables κs a ≡ t
+      → create.Learnt κs a r s
+      → Creates cap t r
+
+-- a call of `push` on the state q and the tables t, with what is pushed, returned r and left tables
+pub data Pushes (q : ImpairQueue) (t : Tables) (due arrival : Float) (route id : ℕ) (bytes : List ℕ) : Pushed → Tables → Type 1 where
+  called : (κs : Lifetimes.Lfts 10) (a : World.ArgsD push-fn.signature κs) (r : World.ResD push-fn.signature κs) (s : Clauses.AtExit (Kinds'.endedOf 10 push-kinds.ps push-kinds.r) κs)
+      → a .0 ≡ q → pushTables κs a ≡ t
+      → a .1 .1 .1 .1 .1 .1 .1 .1 .1 .1 .0 ≡ due
+      → a .1 .1 .1 .1 .1 .1 .1 .1 .1 .1 .1 .0 ≡ arrival
+      → a .1 .1 .1 .1 .1 .1 .1 .1 .1 .1 .1 .1 .0 ≡ route
+      → a .1 .1 .1 .1 .1 .1 .1 .1 .1 .1 .1 .1 .1 .0 ≡ id
+      → now (a .1 .1 .1 .1 .1 .1 .1 .1 .1 .1 .1 .1 .1 .1 .0) ≡ bytes
+      → push.Learnt κs a r s
+      → Pushes q t due arrival route id bytes r (pushLeaves κs a s)
+
+-- a call of `release` at an instant
+pub data Releases (q : ImpairQueue) (t : Tables) (instant : Float) : Released → Tables → Type 1 where
+  called : (κs : Lifetimes.Lfts 9) (a : World.ArgsD release-fn.signature κs) (r : World.ResD release-fn.signature κs) (s : Clauses.AtExit (Kinds'.endedOf 9 release-kinds.ps release-kinds.r) κs)
+      → a .0 ≡ q → releaseTables κs a ≡ t
+      → a .1 .1 .1 .1 .1 .1 .1 .1 .1 .1 .0 ≡ instant
+      → release.Learnt κs a r s
+      → Releases q t instant r (releaseLeaves κs a s)
+
+-- a call of `drain`, which is lent no table
+pub data Drains (q : ImpairQueue) : Drained → Type 1 where
+  called : (κs : Lifetimes.Lfts 0) (a : World.ArgsD drain-fn.signature κs) (r : World.ResD drain-fn.signature κs) (s : Clauses.AtExit (Kinds'.endedOf 0 drain-kinds.ps drain-kinds.r) κs)
+      → a .0 ≡ q
+      → drain.Learnt κs a r s
+      → Drains q r
+
+creates-is : {cap : ℕ} {t : Tables} {r : Created} → Creates cap t r → r ≡ createOf slotWidth cap t
+creates-is (Creates.called κs a r s ec et h) = h ∙ (λ i. createOf slotWidth (ec i) (et i))
+
+pushes-is : {q : ImpairQueue} {t : Tables} {due arrival : Float} {route id : ℕ} {bytes : List ℕ} {r : Pushed} {t′ : Tables} → Pushes q t due arrival route id bytes r t′ → after r t′ ≡ pushOf slotWidth q t due arrival route id bytes
+pushes-is (Pushes.called κs a r s eq et ed ea er ei eb h) = h ∙ (λ i. pushOf slotWidth (eq i) (et i) (ed i) (ea i) (er i) (ei i) (eb i))
+
+releases-is : {q : ImpairQueue} {t : Tables} {instant : Float} {r : Released} {t′ : Tables} → Releases q t instant r t′ → after r t′ ≡ releaseOf slotWidth q t instant
+releases-is (Releases.called κs a r s eq et ei h) = h ∙ (λ i. releaseOf slotWidth (eq i) (et i) (ei i))
+
+drains-is : {q : ImpairQueue} {r : Drained} → Drains q r → r ≡ drainOf q
+drains-is (Drains.called κs a r s eq h) = h ∙ (λ i. drainOf (eq i))
+
+-- a run of the functions over a list of calls, with its replies: each call begins with what the last one left
+pub data Ran : ImpairQueue → Tables → List Call → List Reply → Type 1 where
+  done : {q : ImpairQueue} {t : Tables} → Ran q t [] []
+  pushes : {q : ImpairQueue} {t t′ : Tables} {due arrival : Float} {route id : ℕ} {bytes : List ℕ} {r : Pushed} {cs : List Call} {rs : List Reply}
+      → Pushes q t due arrival route id bytes r t′ → Ran (r .queue) t′ cs rs
+      → Ran q t (pushCall due arrival route id bytes ∷ cs) (saidOfPush (r .answer) ∷ rs)
+  releases : {q : ImpairQueue} {t t′ : Tables} {instant : Float} {r : Released} {cs : List Call} {rs : List Reply}
+      → Releases q t instant r t′ → Ran (r .queue) t′ cs rs
+      → Ran q t (releaseCall instant ∷ cs) (saidOfRelease slotWidth (t′ .store) (r .answer) ∷ rs)
+  drains : {q : ImpairQueue} {t : Tables} {r : Drained} {cs : List Call} {rs : List Reply}
+      → Drains q r → Ran (r .queue) t cs rs
+      → Ran q t (drainCall ∷ cs) (saidOfDrain (r .answer) ∷ rs)
+
+ran-is : {q : ImpairQueue} {t : Tables} {cs : List Call} {rs : List Reply} → Ran q t cs rs → rs ≡ answersTo slotWidth q t cs
+unfolding answersTo answerTo
+ran-is done = refl
+ran-is (pushes {r = r} {cs = cs} c k) =
+    ap (λ (l : List Reply). saidOfPush (r .answer) ∷ l) (ran-is k)
+    ∙ ap (λ (o : After Pushed). saidByPush o .reply ∷ answersTo slotWidth (saidByPush o .queue) (saidByPush o .tables) cs) (pushes-is c)
+ran-is (releases {t′ = t′} {r = r} {cs = cs} c k) =
+    ap (λ (l : List Reply). saidOfRelease slotWidth (t′ .store) (r .answer) ∷ l) (ran-is k)
+    ∙ ap (λ (o : After Released). saidByRelease slotWidth o .reply ∷ answersTo slotWidth (saidByRelease slotWidth o .queue) (saidByRelease slotWidth o .tables) cs) (releases-is c)
+ran-is (drains {t = t} {r = r} {cs = cs} c k) =
+    ap (λ (l : List Reply). saidOfDrain (r .answer) ∷ l) (ran-is k)
+    ∙ ap (λ (o : Drained). saidByDrain t o .reply ∷ answersTo slotWidth (saidByDrain t o .queue) (saidByDrain t o .tables) cs) (drains-is c)
+
+-- every run on a queue that was created replies as the plain queue of that capacity does
+pub theorem : {cap : ℕ} {t : Tables} {r : Created} → Creates cap t r → r .answer ≡ created.Created → (cs : List Call) (rs : List Reply) → Ran (r .queue) t cs rs → rs ≡ run slotWidth (plain cap [] 0) cs
+theorem {cap} {t} {r} c made cs rs ran =
+    ran-is ran
+    ∙ ap (λ (x : Created). answersTo slotWidth (x .queue) t cs) (creates-is c)
+    ∙ created-agrees slotWidth cap t (ap (λ (x : Created). x .answer) (sym (creates-is c)) ∙ made) cs

@@ -1,0 +1,1 @@
+// What is shown of the queue: see specs/Lib.antt.
