@@ -61,6 +61,9 @@ same-length-4 c = search needs
 same-length-5 : tie.Need-same-length-5
 same-length-5 c = search needs
 
+returns-5 : tie.Need-returns-5
+returns-5 c = release-later _ _ _ _ _ _ _ (c .before .before .before .before .before .before .before .before .before .before .before .before .before .shortest .ensures) (c .before .before .before .before .before .before .before .before .before .before .before .before .has-room .ensures) (c .before .before .before .before .before .before .before .before .before .before .before .release-refusal .ensures) _ (c .before .before .before .before .before .before .before .before .before .before .if1 .left) (c .before .before .before .before .before .before .before .before .if2 .left) (c .before .before .before .before .before .before .least .ensures) _ _ (c .before .before .before .before .if3 .left) (c .before .before .get-f64 .ensures) (c .before .if4 .left) (c .stays4 .ensures)
+
 returns-4 : tie.Need-returns-4
 returns-4 c = release-done _ _ _ _ _ _ _ (c .before .before .before .before .before .before .before .before .before .before .before .before .before .before .before .before .before .before .before .before .before .before .before .before .before .shortest .ensures) (c .before .before .before .before .before .before .before .before .before .before .before .before .before .before .before .before .before .before .before .before .before .before .before .before .has-room .ensures) (c .before .before .before .before .before .before .before .before .before .before .before .before .before .before .before .before .before .before .before .before .before .before .before .release-refusal .ensures) _ (c .before .before .before .before .before .before .before .before .before .before .before .before .before .before .before .before .before .before .before .before .before .before .if1 .left) (c .before .before .before .before .before .before .before .before .before .before .before .before .before .before .before .before .before .before .before .before .if2 .left) (c .before .before .before .before .before .before .before .before .before .before .before .before .before .before .before .before .before .before .least .ensures) _ _ (c .before .before .before .before .before .before .before .before .before .before .before .before .before .before .before .before .if3 .left) (c .before .before .before .before .before .before .before .before .before .before .before .before .before .before .get-f64 .ensures) (c .before .before .before .before .before .before .before .before .before .before .before .before .before .if4 .taken) (c .before .before .before .before .before .before .before .before .leaves-slot .ensures)
 
@@ -72,9 +75,6 @@ same-length-6 c = search needs
 
 same-length-7 : tie.Need-same-length-7
 same-length-7 c = search needs
-
-returns-5 : tie.Need-returns-5
-returns-5 c = release-later _ _ _ _ _ _ _ (c .before .before .before .before .before .before .before .before .before .before .before .before .before .shortest .ensures) (c .before .before .before .before .before .before .before .before .before .before .before .before .has-room .ensures) (c .before .before .before .before .before .before .before .before .before .before .before .release-refusal .ensures) _ (c .before .before .before .before .before .before .before .before .before .before .if1 .left) (c .before .before .before .before .before .before .before .before .if2 .left) (c .before .before .before .before .before .before .least .ensures) _ _ (c .before .before .before .before .if3 .left) (c .before .before .get-f64 .ensures) (c .before .if4 .left) (c .stays4 .ensures)
 
 pub release-spec : {M : Type 1} → statement M
 release-spec =
