@@ -9,6 +9,7 @@ mod engine_answers;
 mod engine_calls;
 mod engine_texts;
 mod impair;
+mod instants;
 mod long_texts;
 mod print;
 mod refusals;

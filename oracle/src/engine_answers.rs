@@ -3,10 +3,10 @@
 use crate::answers::settings_of;
 use crate::config::{Config, DirectionConfig};
 use crate::impair::{ArrivalEngine, Decision};
+use crate::instants::{float_of, LAST};
 use crate::print::{count, float};
 use crate::script;
 
-const LAST: f64 = (1u64 << 53) as f64;
 const LONGEST: u64 = 2048;
 
 pub struct Answers {
@@ -31,10 +31,10 @@ impl Answers {
         let words: Vec<&str> = std::str::from_utf8(line).ok()?.split(' ').collect();
         match words[..] {
             ["engine", direction, seed] => self.create(direction, seed.parse().ok()?),
-            ["d", now, len] => Some(self.decide(instant(now)?, len.parse().ok()?)),
-            ["b", now] => Some(timed("rebind", instant(now)?, |now| self.engine.should_rebind_now(now))),
-            ["k", now] => Some(timed("rst", instant(now)?, |now| self.engine.rst_now(now))),
-            ["h", now] => Some(timed("hold", instant(now)?, |now| self.engine.hold_now(now))),
+            ["d", now, len] => Some(self.decide(float_of(now)?, len.parse().ok()?)),
+            ["b", now] => Some(timed("rebind", float_of(now)?, |now| self.engine.should_rebind_now(now))),
+            ["k", now] => Some(timed("rst", float_of(now)?, |now| self.engine.rst_now(now))),
+            ["h", now] => Some(timed("hold", float_of(now)?, |now| self.engine.hold_now(now))),
             ["o"] => {
                 self.engine.stats_inc_overflow();
                 Some("overflow".to_string())
@@ -94,15 +94,6 @@ impl Answers {
         ];
         format!("stats{}", counts.map(count).concat())
     }
-}
-
-// The float of 16 lower-case hexadecimal digits.
-fn instant(word: &str) -> Option<f64> {
-    let is_digit = |byte: u8| matches!(byte, b'0'..=b'9' | b'a'..=b'f');
-    if word.len() != 16 || !word.bytes().all(is_digit) {
-        return None;
-    }
-    u64::from_str_radix(word, 16).ok().map(f64::from_bits)
 }
 
 fn in_range(now: f64) -> bool {

@@ -1,9 +1,8 @@
 // Calls on an engine, drawn at random: instants, lengths, and the lines of a script.
 
 use crate::config::DirectionConfig;
+use crate::instants::{beside, bits, within, LAST};
 use crate::split_mix::SplitMix;
-
-const LAST: f64 = (1u64 << 53) as f64;
 
 // Lines that ask for nothing.
 const BAD: [&str; 12] = [
@@ -128,10 +127,6 @@ impl Calls {
     }
 }
 
-fn bits(instant: f64) -> String {
-    format!("{:016x}", instant.to_bits())
-}
-
 fn fraction(r: &mut SplitMix) -> f64 {
     r.below(1 << 53) as f64 / LAST
 }
@@ -143,15 +138,6 @@ fn step(r: &mut SplitMix) -> f64 {
         2 => fraction(r) * 100.0,
         _ => fraction(r) * 3.0,
     }
-}
-
-// The instant itself, or a neighbour of it among the floats.
-fn beside(r: &mut SplitMix, instant: f64) -> f64 {
-    r.pick(&[instant, instant, instant.next_down(), instant.next_up()])
-}
-
-fn within(instant: f64) -> f64 {
-    if instant > 0.0 { instant.min(LAST) } else { 0.0 }
 }
 
 fn out_of_range(r: &mut SplitMix) -> f64 {

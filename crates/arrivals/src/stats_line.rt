@@ -24,27 +24,21 @@ pub fn answer(out: &mut [u8], mut s: State) -> State {
 }
 
 fn received(out: &mut [u8], at: usize, stats: DirectionStats) -> usize {
-    let end = count(out, at, stats.received_pkts);
-    count(out, end, stats.received_bytes)
+    let end = collected::count(out, at, stats.received_pkts);
+    collected::count(out, end, stats.received_bytes)
 }
 
 fn drops(out: &mut [u8], at: usize, stats: DirectionStats) -> usize {
-    let mut end = count(out, at, stats.dropped_random);
-    end = count(out, end, stats.dropped_ge);
-    end = count(out, end, stats.dropped_mtu);
-    end = count(out, end, stats.dropped_blackout);
-    count(out, end, stats.dropped_overflow)
+    let mut end = collected::count(out, at, stats.dropped_random);
+    end = collected::count(out, end, stats.dropped_ge);
+    end = collected::count(out, end, stats.dropped_mtu);
+    end = collected::count(out, end, stats.dropped_blackout);
+    collected::count(out, end, stats.dropped_overflow)
 }
 
 fn others(out: &mut [u8], at: usize, stats: DirectionStats) -> usize {
-    let mut end = count(out, at, stats.duplicates);
-    end = count(out, end, stats.reorder_hits);
-    end = count(out, end, stats.rate_deferred);
-    count(out, end, stats.nat_rebinds)
-}
-
-// A blank and the number in decimal.
-fn count(out: &mut [u8], at: usize, n: u64) -> usize {
-    let blank = collected::text(out, at, b" ");
-    collected::decimal(out, blank, n)
+    let mut end = collected::count(out, at, stats.duplicates);
+    end = collected::count(out, end, stats.reorder_hits);
+    end = collected::count(out, end, stats.rate_deferred);
+    collected::count(out, end, stats.nat_rebinds)
 }

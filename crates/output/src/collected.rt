@@ -26,6 +26,12 @@ pub fn decimal(out: &mut [u8], at: usize, n: u64) -> usize {
     text(out, at, &digits[..k])
 }
 
+// A blank and the number in decimal.
+pub fn count(out: &mut [u8], at: usize, n: u64) -> usize {
+    let blank = text(out, at, b" ");
+    decimal(out, blank, n)
+}
+
 // 16 hexadecimal digits.
 pub fn hex(out: &mut [u8], at: usize, n: u64) -> usize {
     let mut digits = [0u8; 16];

@@ -7,6 +7,7 @@ mod lines;
 mod option_text;
 mod parts;
 mod patterns;
+pub mod payload;
 mod words;
 
 pub use hex::Decoded;

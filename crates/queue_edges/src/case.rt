@@ -1,0 +1,93 @@
+// A line for each case: the call, the name of the case, the answer to a call over memory that holds zeros, and the state after it: capacity, held and next seq.
+use crate::lend;
+use crate::lend::Lent;
+use crate::states;
+use output::collected;
+use queue::ImpairQueue;
+use queue_calls::Answer;
+use queue_calls::Answered;
+use queue_calls::Call;
+use queue_calls::Copy;
+
+// Memory for two copies is lent; table number `short`, as in lend, has one entry less.
+pub fn create(name: &[u8], short: u32, cap: usize) {
+    output::text(b"create ");
+    line(name, states::empty(0), short, Call::Create(cap), 0);
+}
+
+pub fn push(name: &[u8], queue: ImpairQueue, short: u32, due_ms: f64, arrival_ms: f64, n: usize) {
+    output::text(b"push ");
+    let copy = Copy {
+        due_ms,
+        arrival_ms,
+        route: 7,
+        copy_id: 1,
+    };
+    line(name, queue, short, Call::Push(copy), n);
+}
+
+pub fn release(name: &[u8], queue: ImpairQueue, short: u32, now_ms: f64) {
+    output::text(b"release ");
+    line(name, queue, short, Call::Release(now_ms), 0);
+}
+
+pub fn next_due(name: &[u8], queue: ImpairQueue, short: u32) {
+    output::text(b"next_due ");
+    line(name, queue, short, Call::NextDue, 0);
+}
+
+pub fn drain(name: &[u8], queue: ImpairQueue) {
+    output::text(b"drain ");
+    line(name, queue, 0, Call::Drain, 0);
+}
+
+// The copy of a push has n bytes.
+fn line(name: &[u8], queue: ImpairQueue, short: u32, call: Call, n: usize) {
+    let mut win = [0u32; 16];
+    let mut free = [0u32; 16];
+    let mut dues = [0.0f64; 16];
+    let mut seqs = [0u64; 16];
+    let mut arrivals = [0.0f64; 16];
+    let mut routes = [0u64; 16];
+    let mut ids = [0u32; 16];
+    let mut lengths = [0u32; 16];
+    let mut store = [0u8; 16392];
+    let bytes = [0u8; 4096];
+    let answered = lend::make(
+        queue,
+        Lent { entries: 2, short },
+        &mut win,
+        &mut free,
+        &mut dues,
+        &mut seqs,
+        &mut arrivals,
+        &mut routes,
+        &mut ids,
+        &mut lengths,
+        &mut store,
+        values::front(&bytes, n),
+        call,
+    );
+    print(name, answered);
+}
+
+pub fn print(name: &[u8], answered: Answered) {
+    output::text(name);
+    let queue = answered.queue;
+    let answer = answered.answer;
+    words(answer);
+    output::text(b"; queue");
+    output::count(queue.cap as u64);
+    output::count(queue.held as u64);
+    output::count(queue.next_seq);
+    output::end();
+}
+
+fn words(answer: Answer) {
+    let mut space = [0u8; 256];
+    let out: &mut [u8] = &mut space;
+    let blank = collected::text(out, 0, b": ");
+    let store = [0u8; 2048];
+    let all = queue_calls::say(out, blank, answer, &store);
+    collected::flush(out, all);
+}

@@ -1,0 +1,102 @@
+// One call, and whether it kept what it had to keep.
+ghost use lib.ListN.{length};
+ghost use Rattle.queue_edges.specs.Room.{room};
+use crate::lend;
+use crate::lend::Lent;
+use crate::marks;
+use crate::marks::Marks;
+use queue::ImpairQueue;
+use queue_calls::Answer;
+use queue_calls::Call;
+
+// The queue after the call, the answer, and whether all was kept.
+pub struct Judged {
+    pub queue: ImpairQueue,
+    pub answer: Answer,
+    pub kept: bool,
+}
+
+pub fn make(
+    queue: ImpairQueue,
+    lent: Lent,
+    win: &mut [u32],
+    free: &mut [u32],
+    dues: &mut [f64],
+    seqs: &mut [u64],
+    arrivals: &mut [f64],
+    routes: &mut [u64],
+    ids: &mut [u32],
+    lengths: &mut [u32],
+    store: &mut [u8],
+    bytes: &[u8],
+    call: Call,
+) -> Judged
+    requires { ⌜ room (length (now win)) (length (now free)) (length (now dues)) (length (now seqs)) (length (now arrivals)) (length (now routes)) (length (now ids)) (length (now lengths)) (length (now store)) ⌝ }
+{
+    let before = marks::of(
+        lent,
+        win,
+        free,
+        dues,
+        seqs,
+        arrivals,
+        routes,
+        ids,
+        lengths,
+        store,
+    );
+    let answered = lend::make(
+        queue,
+        lent,
+        win,
+        free,
+        dues,
+        seqs,
+        arrivals,
+        routes,
+        ids,
+        lengths,
+        store,
+        bytes,
+        call,
+    );
+    let after = marks::of(
+        lent,
+        win,
+        free,
+        dues,
+        seqs,
+        arrivals,
+        routes,
+        ids,
+        lengths,
+        store,
+    );
+    let left = answered.queue;
+    let answer = answered.answer;
+    Judged {
+        queue: left,
+        answer,
+        kept: is_kept(answer, before, after, is_same(queue, left)),
+    }
+}
+
+// What was not lent stays always; the lent memory unless a copy entered or left, and the state unless copies entered or left.
+fn is_kept(answer: Answer, before: Marks, after: Marks, same_state: bool) -> bool {
+    let around = before.around == after.around;
+    let all = around & (before.lent == after.lent);
+    match answer {
+        Answer::Entered(_) => around,
+        Answer::Released(_) => around,
+        Answer::Drained(_) => all,
+        _ => all & same_state,
+    }
+}
+
+fn is_same(a: ImpairQueue, b: ImpairQueue) -> bool {
+    (a.cap == b.cap)
+        & (a.held == b.held)
+        & (a.next_seq == b.next_seq)
+        & (a.leaves == b.leaves)
+        & (a.opened == b.opened)
+}

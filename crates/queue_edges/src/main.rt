@@ -1,0 +1,31 @@
+// Calls of the queue on memory and states that no earlier call has left; the file stdout has what document 01 says of them.
+mod altered;
+mod case;
+mod chosen;
+mod creations;
+mod judged;
+mod lend;
+mod limits;
+mod marks;
+mod memory;
+mod order;
+mod parts;
+mod scatter;
+mod seqs_end;
+mod states;
+mod tally;
+
+fn main() {
+    creations::capacities();
+    memory::tables_short();
+    order::pushes();
+    order::releases();
+    order::others();
+    limits::instants();
+    limits::copies();
+    limits::counters();
+    seqs_end::run();
+    parts::ends();
+    parts::many();
+    altered::run();
+}

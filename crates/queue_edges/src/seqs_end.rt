@@ -1,0 +1,84 @@
+// The last two seqs go to copies that are due at no instant: they are held like any other, and then every call is refused. A next seq that is set back shows
+// both.
+use crate::case;
+use crate::lend;
+use crate::lend::Lent;
+use crate::states;
+use crate::states::TOO_MANY;
+use queue::ImpairQueue;
+use queue_calls::Call;
+use queue_calls::Copy;
+
+// One call after the other over the same memory.
+pub fn run() {
+    let mut win = [0u32; 16];
+    let mut free = [0u32; 16];
+    let mut dues = [0.0f64; 16];
+    let mut seqs = [0u64; 16];
+    let mut arrivals = [0.0f64; 16];
+    let mut routes = [0u64; 16];
+    let mut ids = [0u32; 16];
+    let mut lengths = [0u32; 16];
+    let mut store = [0u8; 16392];
+    let mut queue = states::empty(TOO_MANY - 2);
+    for step in 0..13u64 {
+        let answered = lend::make(
+            before(queue, step),
+            Lent {
+                entries: 2,
+                short: 0,
+            },
+            &mut win,
+            &mut free,
+            &mut dues,
+            &mut seqs,
+            &mut arrivals,
+            &mut routes,
+            &mut ids,
+            &mut lengths,
+            &mut store,
+            b"abc",
+            call_at(step),
+        );
+        queue = answered.queue;
+        case::print(b"last seqs", answered);
+    }
+}
+
+fn call_at(step: u64) -> Call {
+    match step {
+        0 => Call::Push(never()),
+        1 => Call::NextDue,
+        2 => Call::Release(9007199254740992.0),
+        3 => Call::Push(never()),
+        4 => Call::Push(never()),
+        5 => Call::Release(9007199254740992.0),
+        6 => Call::NextDue,
+        7 => Call::Drain,
+        8 => Call::Len,
+        9 => Call::NextDue,
+        10 => Call::Release(9007199254740992.0),
+        11 => Call::Drain,
+        _ => Call::NextDue,
+    }
+}
+
+// The state that a step is handed: the next seq is set back before step 9.
+fn before(queue: ImpairQueue, step: u64) -> ImpairQueue {
+    ImpairQueue {
+        cap: queue.cap,
+        held: queue.held,
+        next_seq: if step == 9 { 5 } else { queue.next_seq },
+        leaves: queue.leaves,
+        opened: queue.opened,
+    }
+}
+
+fn never() -> Copy {
+    Copy {
+        due_ms: states::infinity(),
+        arrival_ms: 0.0,
+        route: 7,
+        copy_id: 1,
+    }
+}
