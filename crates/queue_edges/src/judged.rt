@@ -16,7 +16,7 @@ pub struct Judged {
     pub kept: bool,
 }
 
-pub fn make(
+pub(crate) fn make(
     queue: ImpairQueue,
     lent: Lent,
     win: &mut [u32],

@@ -43,7 +43,7 @@ fn lacking(n: usize, one: bool) -> usize
 }
 
 // Makes the call over the lent parts.
-pub fn make(
+pub(crate) fn make(
     queue: ImpairQueue,
     lent: Lent,
     win: &mut [u32],

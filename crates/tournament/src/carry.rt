@@ -16,9 +16,9 @@ pub(crate) fn carry(win: &mut [u32], dues: &[f64], seqs: &[u64], leaves: usize, 
     while 1 < node {
         let other = nodes::sibling_slot(win, leaves, node);
         let other_due = tables::get_f64(dues, other as usize);
-        let first = key::before(seqs, other_due, other, best_due, best);
-        best = key::choose_slot(first, other, best);
-        best_due = key::choose_due(first, other_due, best_due);
+        let better = key::better(seqs, other_due, other, best_due, best);
+        best = better.slot;
+        best_due = better.due_ms;
         node = node / 2;
         tables::set_u32(win, node, best);
     }

@@ -1,4 +1,5 @@
 -- The loop's invariant: what is left of the way gives what the whole way gives, and `best_due` is the due of `best`. The measure is the node.
+use mathlib.Core.Path.{refl}
 use native.Mathlib.Omega.{arith}
 use borrow.Author.Needs.{needs}
 use Rattle.tournament.proofs.WaySteps.{Carry, carry-start, carry-done, carry-turn}
@@ -29,14 +30,8 @@ cast-get-f64 c = search needs
 get-f64-requires-2 : tie.Need-get-f64-requires-2 Inv-loop μ-loop
 get-f64-requires-2 c κs = search needs
 
-before-requires : tie.Need-before-requires Inv-loop μ-loop
-before-requires c κs = search needs
-
-choose-slot-requires : tie.Need-choose-slot-requires Inv-loop μ-loop
-choose-slot-requires c κs = search needs
-
-choose-due-requires : tie.Need-choose-due-requires Inv-loop μ-loop
-choose-due-requires c κs = search needs
+better-requires : tie.Need-better-requires Inv-loop μ-loop
+better-requires c κs = search needs
 
 set-u32-requires : tie.Need-set-u32-requires Inv-loop μ-loop
 set-u32-requires c κs = search needs
@@ -45,7 +40,7 @@ loop-less : tie.Need-loop-less Inv-loop μ-loop
 loop-less c = search needs
 
 loop-again : tie.Need-loop-again Inv-loop μ-loop
-loop-again c = carry-turn _ _ _ _ _ _ _ _ _ (c .before .before .before .before .before .before .before .before .before .before .before .loop .inv) _ _ _ _ _ _ (omega (arith, c .before .before .before .before .before .before .before .before .before .before .loop-test .taken)) (c .before .before .before .before .before .before .before .before .sibling-slot .ensures) (c .before .before .before .before .before .before .before .get-f642 .ensures) (c .before .before .before .before .before .before .before2 .ensures) (c .before .before .before .before .before .choose-slot .ensures) (c .before .before .before .before .choose-due .ensures) (c .before .before .set-u32 .ensures) (c .before .before .set-u32 .kept .0)
+loop-again c = carry-turn _ _ _ _ _ _ _ _ _ (c .before .before .before .before .before .before .before .before .before .loop .inv) _ _ _ _ _ _ (omega (arith, c .before .before .before .before .before .before .before .before .loop-test .taken)) (c .before .before .before .before .before .before .sibling-slot .ensures) (c .before .before .before .before .before .get-f642 .ensures) refl (c .before .before .before .before .better .ensures .0) (c .before .before .before .before .better .ensures .1) (c .before .before .set-u32 .ensures) (c .before .before .set-u32 .kept .0)
 
 same-length : tie.Need-same-length Inv-loop μ-loop
 same-length c = c .before .loop .inv .long
@@ -65,9 +60,7 @@ carry-spec =
     sibling-slot-requires
     cast-get-f64
     get-f64-requires-2
-    before-requires
-    choose-slot-requires
-    choose-due-requires
+    better-requires
     set-u32-requires
     loop-less
     loop-again
