@@ -1,6 +1,6 @@
 -- Small runs of the plain queue, worked out: what a reader can check by hand.
 use mathlib.Core.Path.{_≡_, refl}
-use mathlib.Core.Bool.{Bool, true, false}
+use mathlib.Core.Bool.{true, false}
 use mathlib.Core.List.{List, [], _∷_}
 use Prim.Native.Nat.{ℕ}
 use lib.IntN.{pos}
@@ -9,7 +9,7 @@ use Rattle.numbers.specs.Instant.{isInstantOf}
 use Rattle.numbers.specs.Limits.{isCounterOf}
 use Rattle.numbers.specs.Whole.{whole}
 use Rattle.tournament.specs.Order.{beforeOf}
-use Rattle.queue_laws.specs.Held.{Copy, copy, Call, push, release, drain, Reply, entered, released, noneDue, drained, refused, least, without, plain, pushPlain, leaveIfDue, releaseLeast, releasePlain, drainPlain, step, run}
+use Rattle.queue_laws.specs.Held.{copy, Call, push, release, drain, Reply, entered, released, noneDue, drained, refused, least, without, plain, pushPlain, leaveIfDue, releaseLeast, releasePlain, drainPlain, step, run}
 
 -- a copy without bytes, due at that instant, which came at 0
 abbrev at : Float → Call

@@ -1,32 +1,14 @@
 -- What a call does to a tree that it does not leave as it is.
 use mathlib.Core.Path.{_≡_}
-use mathlib.Core.Bool.{true, _&&_}
+use mathlib.Core.Bool.{true}
 use Prim.Native.Nat.{ℕ, _<_, _≤_}
-use lib.Dec.{leb, ltb}
 use lib.Ieee.{Float}
-use borrow.Author.Tests.{lt-ltb, le-ltb, le-leb, lt-leb, ltb-true, leb-true}
-use Rattle.numbers.specs.Laws.Both.{both-true}
+use borrow.Author.Tests.{lt-ltb, le-ltb, le-leb, lt-leb}
 use Rattle.numbers.specs.Limits.{maxCapacity}
 use Rattle.tournament.specs.Growth.{Tree, widenedOf}
 use Rattle.tournament.specs.Calls.{fitsOf, placedOf, enterOf, freedOf, leaveOf}
 
--- the slot can enter a tree with n leaves
-pub record CanEnter (cap n slot : ℕ) : Type 0 where
-  pub capacity : cap ≤ maxCapacity
-  pub leaves : n ≤ cap
-  pub below : slot < cap
-  pub next : slot ≤ n
-
--- what the test says where it is true
-pub fits-true : (cap n slot : ℕ) → fitsOf cap n slot ≡ true → CanEnter cap n slot
-unfolding fitsOf
-fits-true cap n slot h =
-    let abc = both-true (leb cap maxCapacity && leb n cap && ltb slot cap) (leb slot n) h in
-    let ab = both-true (leb cap maxCapacity && leb n cap) (ltb slot cap) (abc .0) in
-    let a = both-true (leb cap maxCapacity) (leb n cap) (ab .0) in
-    record { capacity = leb-true cap maxCapacity (a .0); leaves = leb-true n cap (a .1); below = ltb-true slot cap (ab .1); next = leb-true slot n (abc .1) }
-
--- when the test is true
+-- a slot can enter that has a leaf, or is the first that has none and is below the capacity
 pub true-fits : (cap n slot : ℕ) → cap ≤ maxCapacity → n ≤ cap → slot < cap → slot ≤ n → fitsOf cap n slot ≡ true
 unfolding fitsOf
 true-fits cap n slot a b c d = rw (le-leb cap maxCapacity a, le-leb n cap b, lt-ltb slot cap c, le-leb slot n d)

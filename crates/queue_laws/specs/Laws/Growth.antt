@@ -1,5 +1,5 @@
 -- A tree that grows: the new slots have the key of a free one, and every node is good.
-use mathlib.Core.Path.{_≡_, refl, sym, _∙_, subst}
+use mathlib.Core.Path.{_≡_, refl, _∙_}
 use mathlib.Core.Logic.{_≢_, ⊎-elim}
 use mathlib.Core.List.{List}
 use Prim.Native.Nat.{ℕ, zero, suc, _+_, _<_, _≤_}
@@ -10,7 +10,7 @@ use lib.Ieee.{Float}
 use borrow.Author.Tests.{lt-ltb, le-ltb}
 use Rattle.tournament.specs.Nodes.{lessOf, winnerOf}
 use Rattle.tournament.specs.Growth.{setAll, builtOf, Tree, grownOf, leavesFor, widenedOf}
-use Rattle.queue_laws.specs.Laws.Tree.{eq-cases, lt-cases, Good, Order, turn-here, turn-other}
+use Rattle.queue_laws.specs.Laws.Tree.{eq-cases, Good, Order, turn-here, turn-other}
 
 pub setAll-length : {A : Type 0} (x : A) (i n : ℕ) (l : List A) → length (setAll x i n l) ≡ length l
 unfolding setAll
@@ -59,16 +59,3 @@ widened-same cap n s t h = rw (lt-ltb s n h)
 pub widened-more : (cap n s : ℕ) (t : Tree) → n ≤ s → widenedOf cap n s t ≡ grownOf n (leavesFor cap n) (t .win) (t .dues) (t .seqs)
 unfolding widenedOf
 widened-more cap n s t h = rw (le-ltb s n h)
-
--- slot s has a leaf, and there are no more leaves than the capacity
-pub record Fits (cap s : ℕ) (t : Tree) : Type 0 where
-  pub low : s < t .leaves
-  pub high : t .leaves ≤ cap
-
--- the tree has a leaf for a slot that can enter
-pub widened-fits : (cap s : ℕ) (t : Tree) → t .leaves ≤ cap → s < cap → s ≤ t .leaves → Fits cap s (widenedOf cap (t .leaves) s t)
-unfolding grownOf
-widened-fits cap s t hn hs hl = ⊎-elim
-    (λ (h : s < t .leaves). subst (λ (g : Tree). Fits cap s g) (sym (widened-same cap (t .leaves) s t h)) (record { low = h; high = hn }))
-    (λ (h : t .leaves ≤ s). subst (λ (g : Tree). Fits cap s g) (sym (widened-more cap (t .leaves) s t h)) (record { low = omega arith; high = omega arith }))
-    (lt-cases s (t .leaves))
