@@ -13,7 +13,7 @@ use Rattle.tables.specs.Slots.{partOf}
 use Rattle.tournament.specs.Calls.{fitsOf, enterOf, leaveOf, leastOf}
 use Rattle.tournament.specs.Growth.{Tree}
 use Rattle.queue.specs.Tables.{Tables, After, after, Rows, rowsOf, writtenOf, treeOf, joined}
-use Rattle.queue.specs.Refusals.{memoryOf, pushRefusal, releaseRefusal, stateRefusal}
+use Rattle.queue.specs.Refusals.{memoryOf, pushRefusal, releaseRefusal, stateRefusal, dueRefusal}
 use Rattle.queue.specs.declared.queue.ImpairQueue.{ImpairQueue}
 use Rattle.queue.specs.declared.answers.Created.{Created}
 use Rattle.queue.specs.declared.answers.CreateAnswer.the-variants as create
@@ -120,10 +120,6 @@ releaseOf width q t now =
     (notReleased q (release.Refused (releaseRefusal q (memoryOf width (q .cap) t) now)) t)
 
 -- ---- questions
-
--- the two tables that the question reads
-unfoldable pub dueRefusal : ImpairQueue → ℕ → ℕ → ℕ
-dueRefusal q win dues = stateRefusal q (leb (q .cap) win && leb (q .cap) dues)
 
 unfoldable pub dueAt : ImpairQueue → List Float → ℕ → DueAnswer
 dueAt q dues root = cond (leb (q .leaves) root) (due.Refused refusedKeeping) (due.Due (getD dues root (whole 0)))

@@ -1,4 +1,4 @@
--- "Order: creation 24, 23; calls 23, 21, 22, 27, 25, 28, those that apply", and 26 where what is found is out of keeping.
+-- "Order: .. creation 29, 24, 23; calls 23, 29, 21, 22, 27, 25, 28, those that apply": 29 is not the queue's. 26 stands where what is found is out of keeping.
 use mathlib.Core.Bool.{Bool, true, cond, not, _&&_}
 use Prim.Native.Nat.{ℕ, _*_, min}
 use lib.Dec.{leb, eqb}
@@ -38,7 +38,7 @@ memoryOf width cap t =
     (shortestOf (length (t .win)) (length (t .free)) (length (t .dues)) (length (t .seqs)) (length (t .arrivals)) (length (t .routes)) (length (t .copyIds)) (length (t .lengths)))
     (length (t .store))
 
--- the numbers of the state can stand together
+-- held ≤ opened ≤ leaves ≤ capacity ≤ 1,048,576
 unfoldable pub inKeeping : ImpairQueue → Bool
 inKeeping q = leb (q .cap) maxCapacity && leb (q .leaves) (q .cap) && leb (q .opened) (q .leaves) && leb (q .held) (q .opened)
 
@@ -54,3 +54,7 @@ releaseRefusal q memory now = refusalOf memory (isInstantOf now) true true (isCo
 -- 23, 25, 26
 unfoldable pub stateRefusal : ImpairQueue → Bool → ℕ
 stateRefusal q memory = refusalOf memory true true true (isCounterOf (q .«next_seq»)) (inKeeping q) true
+
+-- the same for `next_due`, which reads two tables
+unfoldable pub dueRefusal : ImpairQueue → ℕ → ℕ → ℕ
+dueRefusal q win dues = stateRefusal q (leb (q .cap) win && leb (q .cap) dues)

@@ -24,10 +24,10 @@ tables w f d s a r c n b = record { win = w; free = f; dues = d; seqs = s; arriv
 -- what a call gives, and the tables that it leaves
 pub record After (A : Type 0) : Type 0 where
   pub gives : A
-  pub leaves : Tables
+  pub memory : Tables
 
 abbrev pub after : {A : Type 0} → A → Tables → After A
-after x t = record { gives = x; leaves = t }
+after x t = record { gives = x; memory = t }
 
 -- the tables of what a slot has beside its key
 pub record Rows : Type 0 where

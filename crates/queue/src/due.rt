@@ -1,6 +1,7 @@
 // When the next copy is due.
 ghost use mathlib.Core.Path.{_≡_};
-ghost use Rattle.queue.specs.Calls.{dueAt, dueRefusal, nextDueOf};
+ghost use Rattle.queue.specs.Refusals.{dueRefusal};
+ghost use Rattle.queue.specs.Calls.{dueAt, nextDueOf};
 use crate::answers::DueAnswer;
 use crate::queue::ImpairQueue;
 use numbers::REFUSED_KEEPING;

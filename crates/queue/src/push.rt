@@ -12,6 +12,7 @@ use crate::row;
 use crate::store::SLOT_WIDTH;
 use numbers::REFUSED_KEEPING;
 
+// A push that entered no copy.
 fn not_pushed(queue: ImpairQueue, number: u32) -> Pushed
     ensures { λ r. ⌜ r ≡ notPushed queue number ⌝ }
 {

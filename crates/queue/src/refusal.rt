@@ -49,6 +49,7 @@ pub(crate) fn refusal(
     0
 }
 
+// The lesser of two lengths.
 fn lesser(a: usize, b: usize) -> usize
     ensures { λ r. ⌜ r ≡ min a b ⌝ }
 {
@@ -82,7 +83,7 @@ pub(crate) fn has_room(cap: u32, shortest: usize, store: usize) -> bool
 }
 
 impl ImpairQueue {
-    // Whether the numbers of the state can stand together.
+    // Whether held ≤ opened ≤ leaves ≤ capacity ≤ 1,048,576.
     pub(crate) fn in_keeping(self) -> bool
         ensures { λ r. ⌜ r ≡ inKeeping self ⌝ }
     {

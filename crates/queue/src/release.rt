@@ -67,6 +67,7 @@ impl ImpairQueue {
         }
     }
 
+    // A release that handed out no copy.
     fn stays(self, answer: ReleaseAnswer) -> Released
         ensures { λ r. ⌜ r ≡ (record { queue = self; answer = answer }) ⌝ }
     {
@@ -77,7 +78,7 @@ impl ImpairQueue {
     }
 
     // The copy in a slot leaves.
-    fn leaves_slot(
+    fn release_slot(
         self,
         win: &mut [u32],
         free: &mut [u32],
@@ -141,7 +142,7 @@ impl ImpairQueue {
             return self.stays(ReleaseAnswer::Refused(REFUSED_KEEPING));
         }
         if tables::get_f64(dues, root as usize) <= now_ms {
-            return self.leaves_slot(
+            return self.release_slot(
                 win,
                 free,
                 dues,

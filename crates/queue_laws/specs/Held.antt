@@ -13,17 +13,18 @@ use Rattle.tournament.specs.Order.{beforeOf}
 use Rattle.queue.specs.declared.answers.DueAnswer.{DueAnswer}
 use Rattle.queue.specs.declared.answers.DueAnswer.the-variants as due
 
--- a copy that is held, with its bytes
+-- "A held copy has due, seq, arrival, route (u64), copy id (u32), length and bytes."
 pub record Copy : Type 0 where
   pub due : Float
   pub seq : ℕ
   pub arrival : Float
   pub route : ℕ
   pub copyId : ℕ
+  pub length : ℕ
   pub bytes : List ℕ
 
-abbrev pub copy : Float → ℕ → Float → ℕ → ℕ → List ℕ → Copy
-copy d s a r c b = record { due = d; seq = s; arrival = a; route = r; copyId = c; bytes = b }
+abbrev pub copy : Float → ℕ → Float → ℕ → ℕ → ℕ → List ℕ → Copy
+copy d s a r c n b = record { due = d; seq = s; arrival = a; route = r; copyId = c; length = n; bytes = b }
 
 -- the first by (due, seq) of a copy and those of a list
 unfoldable pub least : Copy → List Copy → Copy
@@ -72,7 +73,7 @@ pushPlain width p due arrival route id bytes =
     (cond (isNan due) (stepTo (refused refusedDue) p)
     (cond (not (isCounterOf (p .nextSeq))) (stepTo (refused refusedCounter) p)
     (cond (eqb (length (p .held)) (p .cap)) (stepTo (refused refusedFull) p)
-    (stepTo (entered (p .nextSeq)) (plain (p .cap) (p .held ++ (copy due (p .nextSeq) arrival route id bytes ∷ [])) (p .nextSeq + 1)))))))
+    (stepTo (entered (p .nextSeq)) (plain (p .cap) (p .held ++ (copy due (p .nextSeq) arrival route id (length bytes) bytes ∷ [])) (p .nextSeq + 1)))))))
 
 -- the copy leaves if its due has come
 unfoldable pub leaveIfDue : Plain → Float → Copy → Step

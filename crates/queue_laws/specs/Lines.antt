@@ -16,7 +16,7 @@ abbrev at : Float → Call
 at due = push due (whole 0) 7 0 []
 
 abbrev out : Float → ℕ → Reply
-out due seq = released (copy due seq (whole 0) 7 0 [])
+out due seq = released (copy due seq (whole 0) 7 0 0 [])
 
 abbrev replies : ℕ → List Call → List Reply
 replies cap cs = run 2048 (plain cap [] 0) cs

@@ -22,7 +22,7 @@ saidOfPush (pushAnswer.Refused k) = refused k
 
 -- the copy that left, with the bytes of its slot in the store
 abbrev pub copyOf : ℕ → List ℕ → Queued → Copy
-copyOf width store c = copy (c .«due_ms») (c .seq) (c .«arrival_ms») (c .route) (c .«copy_id») (payloadOf width store (c .slot) (c .length))
+copyOf width store c = copy (c .«due_ms») (c .seq) (c .«arrival_ms») (c .route) (c .«copy_id») (c .length) (payloadOf width store (c .slot) (c .length))
 
 abbrev pub saidOfRelease : ℕ → List ℕ → ReleaseAnswer → Reply
 saidOfRelease width store (releaseAnswer.Released c) = released (copyOf width store c)
@@ -43,11 +43,11 @@ abbrev pub said : Reply → ImpairQueue → Tables → Said
 said r q t = record { reply = r; queue = q; tables = t }
 
 abbrev pub saidByPush : After Pushed → Said
-saidByPush o = said (saidOfPush (o .gives .answer)) (o .gives .queue) (o .leaves)
+saidByPush o = said (saidOfPush (o .gives .answer)) (o .gives .queue) (o .memory)
 
 -- a released copy is read with the store that the call leaves
 abbrev pub saidByRelease : ℕ → After Released → Said
-saidByRelease width o = said (saidOfRelease width (o .leaves .store) (o .gives .answer)) (o .gives .queue) (o .leaves)
+saidByRelease width o = said (saidOfRelease width (o .memory .store) (o .gives .answer)) (o .gives .queue) (o .memory)
 
 abbrev pub saidByDrain : Tables → Drained → Said
 saidByDrain t o = said (saidOfDrain (o .answer)) (o .queue) t

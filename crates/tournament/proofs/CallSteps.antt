@@ -8,7 +8,7 @@ use lib.Ieee.{Float}
 use lib.Dec.{ltb}
 use lib.ListN.{set}
 use borrow.Author.Tests.{ltb-true, ltb-false, leb-true, not-true, not-false, lt-ltb, le-ltb, le-leb, lt-leb}
-use Rattle.tournament.specs.Ways.{carriedOf, climbedOf}
+use Rattle.tournament.specs.Paths.{carriedOf, climbedOf}
 use Rattle.tournament.specs.Growth.{Tree, tree, freeDue, freeSeq, grownOf, widenedOf}
 use Rattle.tournament.specs.Calls.{fitsOf, placedOf, enterOf, freedOf, leaveOf}
 use Rattle.tournament.proofs.GrowthSteps.{widened-same, widened-more}

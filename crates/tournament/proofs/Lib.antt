@@ -1,4 +1,4 @@
 pub mod KeySteps
-pub mod WaySteps
+pub mod PathSteps
 pub mod GrowthSteps
 pub mod CallSteps

@@ -7,7 +7,7 @@ use lib.Ieee.{Float}
 use lib.ListN.{set}
 use Rattle.numbers.specs.Limits.{maxCapacity}
 use Rattle.tournament.specs.Nodes.{slotAtOf}
-use Rattle.tournament.specs.Ways.{carriedOf, climbedOf}
+use Rattle.tournament.specs.Paths.{carriedOf, climbedOf}
 use Rattle.tournament.specs.Growth.{Tree, tree, freeDue, freeSeq, widenedOf}
 
 -- a slot can enter: it has a leaf, or is the first that has none and is below the capacity

@@ -1,6 +1,7 @@
 // What the queue asks of the tree.
 ghost use mathlib.Core.Path.{_≡_};
 ghost use Prim.Native.Nat.{_<_, _≤_};
+ghost use Rattle.numbers.specs.Limits.{maxCapacity};
 ghost use Rattle.tournament.specs.Growth.{tree};
 ghost use Rattle.tournament.specs.Calls.{enterOf, leaveOf, leastOf, fitsOf, placedOf};
 use crate::carry;
@@ -25,7 +26,7 @@ fn place(
     due_ms: f64,
     seq: u64,
 )
-    requires { ⌜ (leaves ≤ 1048576) × (slot < leaves) ⌝ }
+    requires { ⌜ (leaves ≤ maxCapacity) × (slot < leaves) ⌝ }
     ensures { λ _. ⌜ tree leaves (now (win .exit)) (now (dues .exit)) (now (seqs .exit)) ≡ placedOf (tree leaves (now (win .entry)) (now (dues .entry)) (now (seqs .entry))) slot «due_ms» seq ⌝ }
 {
     tables::set_f64(dues, slot as usize, due_ms);

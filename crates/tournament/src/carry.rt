@@ -1,13 +1,14 @@
-// The way of a slot that has another key.
+// The path of a slot that has another key.
 ghost use mathlib.Core.Path.{_≡_};
 ghost use Prim.Native.Nat.{_+_, _<_, _≤_};
-ghost use Rattle.tournament.specs.Ways.{carriedOf};
+ghost use Rattle.numbers.specs.Limits.{maxCapacity};
+ghost use Rattle.tournament.specs.Paths.{carriedOf};
 use crate::key;
 use crate::nodes;
 
 // The winner and its due are carried from the slot's leaf to the root; at each node they meet the sibling only.
 pub(crate) fn carry(win: &mut [u32], dues: &[f64], seqs: &[u64], leaves: usize, slot: u32)
-    requires { ⌜ (leaves ≤ 1048576) × (slot < leaves) ⌝ }
+    requires { ⌜ (leaves ≤ maxCapacity) × (slot < leaves) ⌝ }
     ensures { λ _. ⌜ now (win .exit) ≡ carriedOf (now (dues .entry)) (now (seqs .entry)) leaves (leaves + slot) (now (win .entry)) (leaves + slot) slot ⌝ }
 {
     let mut node = leaves + slot as usize;

@@ -3,6 +3,7 @@ ghost use mathlib.Core.Path.{_≡_};
 ghost use mathlib.Core.Bool.{false};
 ghost use Prim.Native.Nat.{_-_, _<_, _≤_, min, max};
 ghost use lib.Ieee.{inf};
+ghost use Rattle.numbers.specs.Limits.{maxCapacity};
 ghost use Rattle.tournament.specs.Growth.{freeDues, freeSeqs, builtOf, tree, grownOf, widenedOf, leavesFor};
 use crate::nodes;
 
@@ -31,7 +32,7 @@ fn clear(dues: &mut [f64], seqs: &mut [u64], from: usize, to: usize)
 
 // Every inner node is made the better of its children, the last node first.
 fn build(win: &mut [u32], dues: &[f64], seqs: &[u64], leaves: usize)
-    requires { ⌜ (0 < leaves) × (leaves ≤ 1048576) ⌝ }
+    requires { ⌜ (0 < leaves) × (leaves ≤ maxCapacity) ⌝ }
     ensures { λ _. ⌜ now (win .exit) ≡ builtOf (now (dues .entry)) (now (seqs .entry)) leaves (leaves - 1) (now (win .entry)) ⌝ }
 {
     let mut node = leaves - 1;
@@ -44,7 +45,7 @@ fn build(win: &mut [u32], dues: &[f64], seqs: &[u64], leaves: usize)
 
 // The tree of `from` leaves gets `to`.
 fn grow(win: &mut [u32], dues: &mut [f64], seqs: &mut [u64], from: usize, to: usize)
-    requires { ⌜ (0 < to) × (to ≤ 1048576) ⌝ }
+    requires { ⌜ (0 < to) × (to ≤ maxCapacity) ⌝ }
     ensures { λ _. ⌜ tree to (now (win .exit)) (now (dues .exit)) (now (seqs .exit)) ≡ grownOf from to (now (win .entry)) (now (dues .entry)) (now (seqs .entry)) ⌝ }
 {
     clear(dues, seqs, from, to);
@@ -53,7 +54,7 @@ fn grow(win: &mut [u32], dues: &mut [f64], seqs: &mut [u64], from: usize, to: us
 
 // Twice the leaves, 16 at the least and the capacity at the most.
 fn leaves_for(cap: u32, leaves: u32) -> u32
-    requires { ⌜ leaves ≤ 1048576 ⌝ }
+    requires { ⌜ leaves ≤ maxCapacity ⌝ }
     ensures { λ r. ⌜ r ≡ leavesFor cap leaves ⌝ }
 {
     let twice = if 8 < leaves { 2 * leaves } else { 16 };
@@ -69,7 +70,7 @@ pub(crate) fn widen(
     leaves: u32,
     slot: u32,
 ) -> u32
-    requires { ⌜ (cap ≤ 1048576) × (leaves ≤ cap) × (slot < cap) ⌝ }
+    requires { ⌜ (cap ≤ maxCapacity) × (leaves ≤ cap) × (slot < cap) ⌝ }
     ensures { λ r. ⌜ tree r (now (win .exit)) (now (dues .exit)) (now (seqs .exit)) ≡ widenedOf cap leaves slot (tree leaves (now (win .entry)) (now (dues .entry)) (now (seqs .entry))) ⌝ }
 {
     if slot < leaves {

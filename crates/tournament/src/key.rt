@@ -62,8 +62,8 @@ fn choose(first: bool, da: f64, a: u32, db: f64, b: u32) -> Keyed
     }
 }
 
-// Of two slots the one whose key is before the other's. The lesser due is chosen without a branch, since which one it is cannot be foreseen; a tie can, and
-// has a branch of its own.
+// Of two slots the one whose key is before the other's. The lesser due is chosen without a branch, since no processor can
+// predict which one it is; a tie is rare and has a branch of its own.
 pub(crate) fn better(seqs: &[u64], da: f64, a: u32, db: f64, b: u32) -> Keyed
     ensures { λ r. ⌜ (r .slot ≡ cond (beforeOf da (getD (now (seqs .entry)) a 0) db (getD (now (seqs .entry)) b 0)) a b) × (r .«due_ms» ≡ cond (beforeOf da (getD (now (seqs .entry)) a 0) db (getD (now (seqs .entry)) b 0)) da db) ⌝ }
 {

@@ -17,15 +17,15 @@ use Rattle.numbers.specs.Refusals.{refusedInstant, refusedLength, refusedCounte
 use Rattle.numbers.specs.Whole.{whole}
 use Rattle.tournament.specs.Calls.{fitsOf, enterOf, leastOf}
 use Rattle.queue.specs.Tables.{Tables, After, after, treeOf, rowsOf, writtenOf}
-use Rattle.queue.specs.Refusals.{memoryOf, inKeeping, refusalOf, pushRefusal, releaseRefusal, stateRefusal}
-use Rattle.queue.specs.Calls.{nextSlot, notPushed, enteredOf, pushOf, notReleased, leftOf, dueOf, releaseOf, drainOf, dueRefusal, dueAt, nextDueOf, lenOf, isEmptyOf}
+use Rattle.queue.specs.Refusals.{memoryOf, inKeeping, refusalOf, pushRefusal, releaseRefusal, stateRefusal, dueRefusal}
+use Rattle.queue.specs.Calls.{nextSlot, notPushed, enteredOf, pushOf, notReleased, leftOf, dueOf, releaseOf, drainOf, dueAt, nextDueOf, lenOf, isEmptyOf}
 use Rattle.queue.specs.declared.queue.ImpairQueue.{ImpairQueue}
 use Rattle.queue.specs.declared.answers.Released.{Released}
 use Rattle.queue.specs.declared.answers.DueAnswer.the-variants as due
 use Rattle.queue.specs.declared.answers.ReleaseAnswer.the-variants as release
 use Rattle.queue_laws.specs.Held.{Copy, Plain, Step, stepTo, entered, noneDue, drained, refused, pushPlain, releasePlain, releaseLeast, leaveIfDue, drainPlain, leastDue, nextDuePlain}
 use Rattle.queue_laws.specs.Replies.{Said, said, saidByPush, saidByRelease, saidByDrain}
-use Rattle.queue_laws.specs.Laws.Rows.{limit}
+use Rattle.queue_laws.specs.Laws.Rows.{seqLimit}
 use Rattle.queue_laws.specs.Laws.Keeps.{Keeps, rowOf}
 use Rattle.queue_laws.specs.Laws.Creation.{long-memory, drained-keeps}
 use Rattle.queue_laws.specs.Laws.Push.{next-fits, enter-keeps}
@@ -69,7 +69,7 @@ module _ (width : ℕ) (t : Tables) (q : ImpairQueue) (p : Plain) (k : Keeps wid
   refuses : (n : ℕ) → Agree width (said (refused n) q t) (stepTo (refused n) p)
   refuses n = record { says = refl; keeps = k }
 
-  next-below : isCounterOf (p .nextSeq) ≡ true → q .«next_seq» < limit
+  next-below : isCounterOf (p .nextSeq) ≡ true → q .«next_seq» < seqLimit
   next-below h = omega (arith, counter-below (p .nextSeq) h, k .same-next)
 
   -- ---- push

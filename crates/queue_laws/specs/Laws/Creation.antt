@@ -18,7 +18,7 @@ use Rattle.queue.specs.declared.queue.ImpairQueue.{ImpairQueue}
 use Rattle.queue.specs.declared.answers.Created.{Created}
 use Rattle.queue.specs.declared.answers.CreateAnswer.the-variants as create
 use Rattle.queue_laws.specs.Held.{Copy, Plain, plain}
-use Rattle.queue_laws.specs.Laws.Rows.{none, limit, view, Perm}
+use Rattle.queue_laws.specs.Laws.Rows.{none, seqLimit, view, Perm}
 use Rattle.queue_laws.specs.Laws.Keeps.{Keeps, Long, rowOf}
 
 no-rows : (row : ℕ → Copy) → Perm [] (view row 0)
@@ -26,7 +26,7 @@ unfolding view
 no-rows row = none
 
 -- nothing is held, and no slot was used
-pub nothing-held : (width cap : ℕ) (t : Tables) (next : ℕ) → 0 < cap → cap ≤ maxCapacity → Long width cap t → next ≤ limit → Keeps width t (fresh cap next) (plain cap [] next)
+pub nothing-held : (width cap : ℕ) (t : Tables) (next : ℕ) → 0 < cap → cap ≤ maxCapacity → Long width cap t → next ≤ seqLimit → Keeps width t (fresh cap next) (plain cap [] next)
 nothing-held width cap t next pos small long next-in = record {
   pos = pos;
   small = small;
@@ -38,9 +38,9 @@ nothing-held width cap t next pos small long next-in = record {
   good = λ (i : ℕ) (p : 0 < i) (b : i < 0). absurd (omega arith);
   slots = λ (s : ℕ) (b : s < 0). absurd (omega arith);
   unused = λ (s : ℕ) (a : 0 ≤ s) (b : s < 0). absurd (omega arith);
-  uniq = λ (s x : ℕ) (a : s < 0) (b : x < 0) (u : getD (t .seqs) s 0 < limit) (e : getD (t .seqs) x 0 ≡ getD (t .seqs) s 0). absurd (omega arith);
-  open-low = λ (j : ℕ) (b : j < 0 - 0). absurd (omega arith);
-  open-dead = λ (j : ℕ) (b : j < 0 - 0). absurd (omega arith);
+  uniq = λ (s x : ℕ) (a : s < 0) (b : x < 0) (u : getD (t .seqs) s 0 < seqLimit) (e : getD (t .seqs) x 0 ≡ getD (t .seqs) s 0). absurd (omega arith);
+  free-low = λ (j : ℕ) (b : j < 0 - 0). absurd (omega arith);
+  free-seqs = λ (j : ℕ) (b : j < 0 - 0). absurd (omega arith);
   apart = λ (i j : ℕ) (a : i < 0 - 0) (b : j < 0 - 0) (e : getD (t .free) i 0 ≡ getD (t .free) j 0). absurd (omega arith);
   count = refl;
   same-next = refl;

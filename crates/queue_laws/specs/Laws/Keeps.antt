@@ -15,13 +15,13 @@ use Rattle.queue.specs.declared.queue.ImpairQueue.{ImpairQueue}
 use Rattle.queue_laws.specs.Held.{Copy, copy, Plain}
 use Rattle.queue_laws.specs.Laws.Order.{Num}
 use Rattle.queue_laws.specs.Laws.Tree.{Good}
-use Rattle.queue_laws.specs.Laws.Rows.{Perm, limit, view}
+use Rattle.queue_laws.specs.Laws.Rows.{Perm, seqLimit, view}
 
 -- what a slot holds, with its bytes
 abbrev pub rowOf : ℕ → Tables → ℕ → Copy
 rowOf width t s =
     copy (getD (t .dues) s (whole 0)) (getD (t .seqs) s 0) (getD (t .arrivals) s (whole 0)) (getD (t .routes) s 0) (getD (t .copyIds) s 0)
-    (partOf width (t .store) s (getD (t .lengths) s 0))
+    (getD (t .lengths) s 0) (partOf width (t .store) s (getD (t .lengths) s 0))
 
 -- a slot has the key of a free one, or the key of a copy that has entered
 abbrev pub Slot : Tables → ℕ → ℕ → Type 0
@@ -45,7 +45,7 @@ pub record Keeps (width : ℕ) (t : Tables) (q : ImpairQueue) (p : Plain) : Type
   pub pos : 0 < q .cap
   pub small : q .cap ≤ maxCapacity
   pub long : Long width (q .cap) t
-  pub next-in : q .«next_seq» ≤ limit
+  pub next-in : q .«next_seq» ≤ seqLimit
   pub held-in : q .held ≤ q .opened
   pub opened-in : q .opened ≤ q .leaves
   pub leaves-in : q .leaves ≤ q .cap
@@ -53,11 +53,11 @@ pub record Keeps (width : ℕ) (t : Tables) (q : ImpairQueue) (p : Plain) : Type
   pub good : (i : ℕ) → 0 < i → i < q .leaves → Good (lessOf (t .dues) (t .seqs)) (q .leaves) (t .win) i
   pub slots : (s : ℕ) → s < q .leaves → Slot t (q .«next_seq») s
   -- the slots from `opened` on were never used
-  pub unused : (s : ℕ) → q .opened ≤ s → s < q .leaves → limit ≤ getD (t .seqs) s 0
-  pub uniq : (s x : ℕ) → s < q .leaves → x < q .leaves → getD (t .seqs) s 0 < limit → getD (t .seqs) x 0 ≡ getD (t .seqs) s 0 → x ≡ s
+  pub unused : (s : ℕ) → q .opened ≤ s → s < q .leaves → seqLimit ≤ getD (t .seqs) s 0
+  pub uniq : (s x : ℕ) → s < q .leaves → x < q .leaves → getD (t .seqs) s 0 < seqLimit → getD (t .seqs) x 0 ≡ getD (t .seqs) s 0 → x ≡ s
   -- the slots that copies have left, each once
-  pub open-low : (j : ℕ) → j < q .opened - q .held → getD (t .free) j 0 < q .opened
-  pub open-dead : (j : ℕ) → j < q .opened - q .held → limit ≤ getD (t .seqs) (getD (t .free) j 0) 0
+  pub free-low : (j : ℕ) → j < q .opened - q .held → getD (t .free) j 0 < q .opened
+  pub free-seqs : (j : ℕ) → j < q .opened - q .held → seqLimit ≤ getD (t .seqs) (getD (t .free) j 0) 0
   pub apart : (i j : ℕ) → i < q .opened - q .held → j < q .opened - q .held → getD (t .free) i 0 ≡ getD (t .free) j 0 → i ≡ j
   pub count : q .held ≡ length (p .held)
   pub same-next : q .«next_seq» ≡ p .nextSeq

@@ -1,4 +1,4 @@
--- A slot's key changes: every node is good again after the way from its leaf is made anew.
+-- A slot's key changes: every node is good again after the path from its leaf is made anew.
 use mathlib.Core.Path.{_≡_, refl, sym, _∙_}
 use mathlib.Core.Logic.{_≢_, _⊎_, ⊎-elim}
 use mathlib.Core.Bool.{Bool, true, false, true≢false}
@@ -11,7 +11,7 @@ use borrow.Author.Tests.{lt-ltb}
 use Rattle.numbers.specs.Whole.{whole}
 use Rattle.tournament.specs.Order.{beforeOf}
 use Rattle.tournament.specs.Nodes.{lessOf, slotAtOf}
-use Rattle.tournament.specs.Ways.{carriedOf, climbedOf}
+use Rattle.tournament.specs.Paths.{carriedOf, climbedOf}
 use Rattle.tournament.specs.Growth.{freeDue, freeSeq}
 use Rattle.queue.specs.Tables.{Tables}
 use Rattle.queue.specs.declared.queue.ImpairQueue.{ImpairQueue}

@@ -32,8 +32,8 @@ unfolding le
 at-most x y h = rw h tt
 
 -- "not below" is transitive
-pub lt-trans : (x y z : Float) → Num x → Num y → Num z → lt x y ≡ false → lt y z ≡ false → lt x z ≡ false
-lt-trans x y z nx ny nz a b =
+pub not-lt-trans : (x y z : Float) → Num x → Num y → Num z → lt x y ≡ false → lt y z ≡ false → lt x z ≡ false
+not-lt-trans x y z nx ny nz a b =
     let p = number nx in
     let q = number ny in
     let r = number nz in
@@ -77,16 +77,16 @@ before-not d s e t n = go (lt e d) refl
     go false q = rw (n .not-lt, q) (le-ltb s t (n .tie q))
 
 -- "not before" is transitive
-pub before-trans : (d : Float) (s : ℕ) (e : Float) (t : ℕ) (f : Float) (u : ℕ) → Num d → Num e → Num f → beforeOf d s e t ≡ false → beforeOf e t f u ≡ false
+pub not-before-trans : (d : Float) (s : ℕ) (e : Float) (t : ℕ) (f : Float) (u : ℕ) → Num d → Num e → Num f → beforeOf d s e t ≡ false → beforeOf e t f u ≡ false
     → beforeOf d s f u ≡ false
-before-trans d s e t f u nd ne nf a b =
+not-before-trans d s e t f u nd ne nf a b =
     let p = not-before d s e t a in
     let q = not-before e t f u b in
     before-not d s f u (record {
-      not-lt = lt-trans d e f nd ne nf (p .not-lt) (q .not-lt);
+      not-lt = not-lt-trans d e f nd ne nf (p .not-lt) (q .not-lt);
       tie = λ (v : lt f d ≡ false).
-          let x : u ≤ t = q .tie (lt-trans f d e nf nd ne v (p .not-lt)) in
-          let y : t ≤ s = p .tie (lt-trans e f d ne nf nd (q .not-lt) v) in
+          let x : u ≤ t = q .tie (not-lt-trans f d e nf nd ne v (p .not-lt)) in
+          let y : t ≤ s = p .tie (not-lt-trans e f d ne nf nd (q .not-lt) v) in
           omega arith;
     })
 

@@ -11,7 +11,7 @@ use lib.Ieee.{Float}
 use borrow.Author.Tests.{eq-eqb, ne-eqb}
 use Rattle.numbers.specs.Whole.{whole}
 use Rattle.tables.specs.Slots.{filledOf}
-use Rattle.tournament.specs.Ways.{climbedOf}
+use Rattle.tournament.specs.Paths.{climbedOf}
 use Rattle.tournament.specs.Growth.{freeDue, freeSeq, freeDues, freeSeqs, builtOf, Tree, grownOf, leavesFor, widenedOf}
 use Rattle.tournament.specs.Calls.{fitsOf, placedOf, enterOf}
 use Rattle.queue.specs.Tables.{Tables, tables, rowsOf, writtenOf, treeOf, joined}
@@ -23,7 +23,7 @@ use Rattle.queue_laws.specs.Laws.Tree.{eq-cases, lt-cases, due-order, cl
 use Rattle.queue_laws.specs.Laws.Growth.{setAll-length, setAll-below, setAll-at, built-length, built-good, widened-same, widened-more}
 use Rattle.queue_laws.specs.Laws.Calls.{true-fits, enter-is}
 use Rattle.queue_laws.specs.Laws.Slots.{slot-inside, filled-length, filled-here, filled-there}
-use Rattle.queue_laws.specs.Laws.Rows.{Perm, skip, trans, perm-last, limit, view, view-push, view-same, view-more}
+use Rattle.queue_laws.specs.Laws.Rows.{Perm, skip, trans, perm-last, seqLimit, view, view-push, view-same, view-more}
 use Rattle.queue_laws.specs.Laws.Keeps.{Keeps, Slot, rowOf, num-inf}
 use Rattle.queue_laws.specs.Laws.Keys.{due-here, due-there, seq-here, seq-there, take-good}
 
@@ -40,16 +40,16 @@ next-slot q free h = ⊎-elim
 
 -- the plain queue with one copy more
 abbrev pub withCopy : Plain → Float → Float → ℕ → ℕ → List ℕ → Plain
-withCopy p due arrival route id bytes = plain (p .cap) (p .held ++ (copy due (p .nextSeq) arrival route id bytes ∷ [])) (p .nextSeq + 1)
+withCopy p due arrival route id bytes = plain (p .cap) (p .held ++ (copy due (p .nextSeq) arrival route id (length bytes) bytes ∷ [])) (p .nextSeq + 1)
 
 -- ---- a copy enters a slot that has a leaf
 
-module _ (width : ℕ) (t : Tables) (q : ImpairQueue) (p : Plain) (k : Keeps width t q p) (due arrival : Float) (route id : ℕ) (bytes : List ℕ) (num : Num due) (fit : length bytes ≤ width) (more : q .«next_seq» < limit) (s : ℕ) (which : Next q (t .free) s) (low : s < q .leaves) where
-  was-free-seq : limit ≤ getD (t .seqs) s 0
-  was-free-seq = ⊎-elim (λ w. k .unused s (omega (arith, w .1)) low) (λ w. rw (w .1) (k .open-dead _ (omega (arith, w .0)))) which
+module _ (width : ℕ) (t : Tables) (q : ImpairQueue) (p : Plain) (k : Keeps width t q p) (due arrival : Float) (route id : ℕ) (bytes : List ℕ) (num : Num due) (fit : length bytes ≤ width) (more : q .«next_seq» < seqLimit) (s : ℕ) (which : Next q (t .free) s) (low : s < q .leaves) where
+  was-free-seq : seqLimit ≤ getD (t .seqs) s 0
+  was-free-seq = ⊎-elim (λ w. k .unused s (omega (arith, w .1)) low) (λ w. rw (w .1) (k .free-seqs _ (omega (arith, w .0)))) which
 
   opened-next : s < max (q .opened) (q .held + 1)
-  opened-next = ⊎-elim (λ w. omega (arith, w .0, w .1)) (λ w. let h = k .open-low (q .opened - q .held - 1) (omega (arith, w .0)) in omega (arith, w .1)) which
+  opened-next = ⊎-elim (λ w. omega (arith, w .0, w .1)) (λ w. let h = k .free-low (q .opened - q .held - 1) (omega (arith, w .0)) in omega (arith, w .1)) which
 
   opened-inside : max (q .opened) (q .held + 1) ≤ q .leaves
   opened-inside = ⊎-elim (λ w. omega (arith, w .0, w .1, low)) (λ w. omega (arith, w .0, k .opened-in)) which
@@ -85,7 +85,7 @@ module _ (width : ℕ) (t : Tables) (q : ImpairQueue) (p : Plain) (k : Keeps wid
       (λ (e : x ≢ s). rw (there-due x e, there-seq x e) (⊎-elim (λ w. inl w) (λ w. inr (w .0, omega (arith, w .1))) (k .slots x h)))
       (eq-cases x s)
 
-  push-uniq : (x y : ℕ) → x < q .leaves → y < q .leaves → getD (t′ .seqs) x 0 < limit → getD (t′ .seqs) y 0 ≡ getD (t′ .seqs) x 0 → y ≡ x
+  push-uniq : (x y : ℕ) → x < q .leaves → y < q .leaves → getD (t′ .seqs) x 0 < seqLimit → getD (t′ .seqs) y 0 ≡ getD (t′ .seqs) x 0 → y ≡ x
   push-uniq x y hx hy l e = go (eq-cases x s) (eq-cases y s)
     where
       go : (x ≡ s) ⊎ (x ≢ s) → (y ≡ s) ⊎ (y ≢ s) → y ≡ x
@@ -112,7 +112,7 @@ module _ (width : ℕ) (t : Tables) (q : ImpairQueue) (p : Plain) (k : Keeps wid
         filled-there width (t .store) s bytes fit has-store x (getD (t .lengths) x 0) h,
       )
 
-  push-row : rowOf width t′ s ≡ copy due (p .nextSeq) arrival route id bytes
+  push-row : rowOf width t′ s ≡ copy due (p .nextSeq) arrival route id (length bytes) bytes
   push-row =
       rw (
         here-due,
@@ -148,8 +148,8 @@ module _ (width : ℕ) (t : Tables) (q : ImpairQueue) (p : Plain) (k : Keeps wid
     slots = push-slots;
     unused = λ (x : ℕ) (h : max (q .opened) (q .held + 1) ≤ x) (l : x < q .leaves). rw (there-seq x (λ (e : x ≡ s). omega (arith, opened-next))) (k .unused x (omega arith) l);
     uniq = push-uniq;
-    open-low = λ (j : ℕ) (h : j < max (q .opened) (q .held + 1) - (q .held + 1)). omega (arith, k .open-low j (omega arith));
-    open-dead = λ (j : ℕ) (h : j < max (q .opened) (q .held + 1) - (q .held + 1)). rw (there-seq (getD (t .free) j 0) (other-free j h)) (k .open-dead j (omega arith));
+    free-low = λ (j : ℕ) (h : j < max (q .opened) (q .held + 1) - (q .held + 1)). omega (arith, k .free-low j (omega arith));
+    free-seqs = λ (j : ℕ) (h : j < max (q .opened) (q .held + 1) - (q .held + 1)). rw (there-seq (getD (t .free) j 0) (other-free j h)) (k .free-seqs j (omega arith));
     apart = λ (i j : ℕ) (hi : i < max (q .opened) (q .held + 1) - (q .held + 1)) (hj : j < max (q .opened) (q .held + 1) - (q .held + 1)). k .apart i j (omega arith) (omega arith);
     count = rw length-append (omega (arith, k .count));
     same-next = omega (arith, k .same-next);
@@ -183,10 +183,10 @@ module _ (width : ℕ) (t : Tables) (q : ImpairQueue) (p : Plain) (k : Keeps wid
   grow-num : (s : ℕ) → s < n → Num (getD (t⁺ .dues) s (whole 0))
   grow-num s h = ⊎-elim (λ w. rw (w .0) num-inf) (λ w. w .0) (grow-slots s h)
 
-  in-tree : (s : ℕ) → s < n → getD (t⁺ .seqs) s 0 < limit → s < q .leaves
-  in-tree s h u = ⊎-elim (λ (l : s < q .leaves). l) (λ (l : q .leaves ≤ s). let z : freeSeq < limit = rw (new-seq s l h) at u in absurd (omega arith)) (lt-cases s (q .leaves))
+  in-tree : (s : ℕ) → s < n → getD (t⁺ .seqs) s 0 < seqLimit → s < q .leaves
+  in-tree s h u = ⊎-elim (λ (l : s < q .leaves). l) (λ (l : q .leaves ≤ s). let z : freeSeq < seqLimit = rw (new-seq s l h) at u in absurd (omega arith)) (lt-cases s (q .leaves))
 
-  grow-uniq : (s x : ℕ) → s < n → x < n → getD (t⁺ .seqs) s 0 < limit → getD (t⁺ .seqs) x 0 ≡ getD (t⁺ .seqs) s 0 → x ≡ s
+  grow-uniq : (s x : ℕ) → s < n → x < n → getD (t⁺ .seqs) s 0 < seqLimit → getD (t⁺ .seqs) x 0 ≡ getD (t⁺ .seqs) s 0 → x ≡ s
   grow-uniq s x hs hx u e =
       let a = in-tree s hs u in
       let b = in-tree x hx (rw e u) in
@@ -218,8 +218,8 @@ module _ (width : ℕ) (t : Tables) (q : ImpairQueue) (p : Plain) (k : Keeps wid
     slots = grow-slots;
     unused = λ (s : ℕ) (h : q .opened ≤ s) (l : s < n). ⊎-elim (λ (u : s < q .leaves). rw (kept-seq s u) (k .unused s h u)) (λ (u : q .leaves ≤ s). rw (new-seq s u l) (omega arith)) (lt-cases s (q .leaves));
     uniq = grow-uniq;
-    open-low = k .open-low;
-    open-dead = λ (j : ℕ) (h : j < q .opened - q .held). rw (kept-seq (getD (t .free) j 0) (omega (arith, k .open-low j h, k .opened-in))) (k .open-dead j h);
+    free-low = k .free-low;
+    free-seqs = λ (j : ℕ) (h : j < q .opened - q .held). rw (kept-seq (getD (t .free) j 0) (omega (arith, k .free-low j h, k .opened-in))) (k .free-seqs j h);
     apart = k .apart;
     count = k .count;
     same-next = k .same-next;
@@ -231,16 +231,16 @@ module _ (width : ℕ) (t : Tables) (q : ImpairQueue) (p : Plain) (k : Keeps wid
 
 module _ (width : ℕ) (t : Tables) (q : ImpairQueue) (p : Plain) (k : Keeps width t q p) (room : q .held < q .cap) where
   next-high : nextSlot q (t .free) ≤ q .opened
-  next-high = ⊎-elim (λ w. omega (arith, w .1)) (λ w. omega (arith, w .1, k .open-low (q .opened - q .held - 1) (omega (arith, w .0)))) (next-slot q (t .free) (k .held-in))
+  next-high = ⊎-elim (λ w. omega (arith, w .1)) (λ w. omega (arith, w .1, k .free-low (q .opened - q .held - 1) (omega (arith, w .0)))) (next-slot q (t .free) (k .held-in))
 
   next-low : nextSlot q (t .free) < q .cap
-  next-low = ⊎-elim (λ w. omega (arith, w .0, w .1)) (λ w. omega (arith, w .1, k .opened-in, k .leaves-in, k .open-low (q .opened - q .held - 1) (omega (arith, w .0)))) (next-slot q (t .free) (k .held-in))
+  next-low = ⊎-elim (λ w. omega (arith, w .0, w .1)) (λ w. omega (arith, w .1, k .opened-in, k .leaves-in, k .free-low (q .opened - q .held - 1) (omega (arith, w .0)))) (next-slot q (t .free) (k .held-in))
 
   -- the next slot can enter the tree, so that 26 does not come
   pub next-fits : fitsOf (q .cap) (q .leaves) (nextSlot q (t .free)) ≡ true
   next-fits = true-fits (q .cap) (q .leaves) (nextSlot q (t .free)) (k .small) (k .leaves-in) next-low (omega (arith, next-high, k .opened-in))
 
-  module _ (due arrival : Float) (route id : ℕ) (bytes : List ℕ) (num : Num due) (fit : length bytes ≤ width) (more : q .«next_seq» < limit) where
+  module _ (due arrival : Float) (route id : ℕ) (bytes : List ℕ) (num : Num due) (fit : length bytes ≤ width) (more : q .«next_seq» < seqLimit) where
     -- the copy stands in the tables that have the tree g
     abbrev Enters : Tree → Type 0
     Enters g = Keeps width (joined g (t .free) (writtenOf width (rowsOf t) (nextSlot q (t .free)) arrival route id bytes)) (oneMore q (g .leaves)) (withCopy p due arrival route id bytes)

@@ -76,8 +76,8 @@ step-clear width p (release now) = release-clear p now
 step-clear width p drain = drain-clear p
 
 -- no call is refused with 23 or 26
-pub never-refused : (width : ℕ) (t : Tables) (q : ImpairQueue) (p : Plain) → Keeps width t q p → (c : Call) (n : ℕ) → answerTo width q t c .reply ≡ refused n → Neither n
-never-refused width t q p k c n e = step-clear width p c n (sym (call-agrees width t q p k c .says) ∙ e)
+pub neither-refused : (width : ℕ) (t : Tables) (q : ImpairQueue) (p : Plain) → Keeps width t q p → (c : Call) (n : ℕ) → answerTo width q t c .reply ≡ refused n → Neither n
+neither-refused width t q p k c n e = step-clear width p c n (sym (call-agrees width t q p k c .says) ∙ e)
 
 -- nor is the question for the next due, whose one refusal is 25
 pub due-refused : (width : ℕ) (t : Tables) (q : ImpairQueue) (p : Plain) → Keeps width t q p → (n : ℕ) → nextDueOf q (t .win) (t .dues) ≡ due.Refused n → n ≡ refusedCounter

@@ -11,7 +11,7 @@ use lib.Ieee.{Float}
 use Rattle.numbers.specs.Whole.{whole}
 use Rattle.tournament.specs.Order.{beforeOf}
 use Rattle.tournament.specs.Nodes.{lessOf}
-use Rattle.tournament.specs.Ways.{carriedOf}
+use Rattle.tournament.specs.Paths.{carriedOf}
 use Rattle.tournament.specs.Growth.{freeDue, freeSeq, Tree}
 use Rattle.tournament.specs.Calls.{freedOf, leaveOf, leastOf}
 use Rattle.queue.specs.Tables.{Tables, tables, rowsOf, treeOf, joined}
@@ -21,7 +21,7 @@ use Rattle.queue_laws.specs.Held.{Copy, Plain, plain, least, without}
 use Rattle.queue_laws.specs.Laws.Order.{before-same}
 use Rattle.queue_laws.specs.Laws.Tree.{eq-cases, lt-cases, due-order, carried-length, root-low, root-min}
 use Rattle.queue_laws.specs.Laws.Calls.{leave-is}
-use Rattle.queue_laws.specs.Laws.Rows.{Perm, perm-sym, perm-length, perm-mem, perm-without, Mem, Sized, least-mem, least-le, limit, view, view-mem, view-place, Place, view-push, view-pop}
+use Rattle.queue_laws.specs.Laws.Rows.{Perm, perm-sym, perm-length, perm-mem, perm-without, Mem, Sized, least-mem, least-le, seqLimit, view, view-mem, view-place, Place, view-push, view-pop}
 use Rattle.queue_laws.specs.Laws.Keeps.{Keeps, Slot, rowOf, num-inf, nums}
 use Rattle.queue_laws.specs.Laws.Keys.{before-free, clash, due-here, due-there, seq-here, seq-there, set-good}
 
@@ -47,11 +47,11 @@ module _ (width : ℕ) (t : Tables) (q : ImpairQueue) (p : Plain) (k : Keeps wid
   place x h = view-place (rowOf width t) (q .leaves) x (perm-mem x perm h)
 
   -- the root is in use
-  root-live : getD (t .seqs) root 0 < limit
+  root-live : getD (t .seqs) root 0 < seqLimit
   unfolding lessOf
   root-live = go (place c (inl refl)) (k .slots root root-below)
     where
-      go : Place (rowOf width t) (q .leaves) c → Slot t (q .«next_seq») root → getD (t .seqs) root 0 < limit
+      go : Place (rowOf width t) (q .leaves) c → Slot t (q .«next_seq») root → getD (t .seqs) root 0 < seqLimit
       go o (inl w) = clash (sym (before-free _ _ (nums width t q p k (o .slot) (o .low)) (omega (arith, o .used)))
           ∙ subst (λ (x : Float). beforeOf (getD (t .dues) (o .slot) (whole 0)) (getD (t .seqs) (o .slot) 0) x freeSeq ≡ false) (w .0)
           (subst (λ (x : ℕ). beforeOf (getD (t .dues) (o .slot) (whole 0)) (getD (t .seqs) (o .slot) 0) (getD (t .dues) root (whole 0)) x ≡ false) (w .1) (least-key (o .slot) (o .low))))
@@ -93,10 +93,10 @@ module _ (width : ℕ) (t : Tables) (q : ImpairQueue) (p : Plain) (k : Keeps wid
       (λ (e : x ≢ root). rw (due-there width t q p k root freeDue freeSeq root-below num-inf x e, else-seq x e) (k .slots x h))
       (eq-cases x root)
 
-  in-use : (x : ℕ) → getD (t″ .seqs) x 0 < limit → x ≢ root
-  in-use x h e = let z : freeSeq < limit = rw (e, gone-seq) at h in omega arith
+  in-use : (x : ℕ) → getD (t″ .seqs) x 0 < seqLimit → x ≢ root
+  in-use x h e = let z : freeSeq < seqLimit = rw (e, gone-seq) at h in omega arith
 
-  left-uniq : (x y : ℕ) → x < q .leaves → y < q .leaves → getD (t″ .seqs) x 0 < limit → getD (t″ .seqs) y 0 ≡ getD (t″ .seqs) x 0 → y ≡ x
+  left-uniq : (x y : ℕ) → x < q .leaves → y < q .leaves → getD (t″ .seqs) x 0 < seqLimit → getD (t″ .seqs) y 0 ≡ getD (t″ .seqs) x 0 → y ≡ x
   left-uniq x y hx hy h e =
       let a = in-use x h in
       let b = in-use y (rw e h) in
@@ -113,15 +113,15 @@ module _ (width : ℕ) (t : Tables) (q : ImpairQueue) (p : Plain) (k : Keeps wid
   entry j h e = omega (arith, some-held, k .held-in)
 
   not-root : (j : ℕ) → j < q .opened - q .held → getD (t .free) j 0 ≢ root
-  not-root j h e = let z : limit ≤ getD (t .seqs) root 0 = rw e at (k .open-dead j h) in omega (arith, root-live)
+  not-root j h e = let z : seqLimit ≤ getD (t .seqs) root 0 = rw e at (k .free-seqs j h) in omega (arith, root-live)
 
   left-open-low : (j : ℕ) → j < q .opened - (q .held - 1) → getD (t″ .free) j 0 < q .opened
-  left-open-low j h = ⊎-elim (λ (e : j ≡ q .opened - q .held). rw (e, free-top) root-used) (λ (e : j ≢ q .opened - q .held). rw (free-rest j e) (k .open-low j (entry j h e))) (eq-cases j (q .opened - q .held))
+  left-open-low j h = ⊎-elim (λ (e : j ≡ q .opened - q .held). rw (e, free-top) root-used) (λ (e : j ≢ q .opened - q .held). rw (free-rest j e) (k .free-low j (entry j h e))) (eq-cases j (q .opened - q .held))
 
-  left-open-dead : (j : ℕ) → j < q .opened - (q .held - 1) → limit ≤ getD (t″ .seqs) (getD (t″ .free) j 0) 0
+  left-open-dead : (j : ℕ) → j < q .opened - (q .held - 1) → seqLimit ≤ getD (t″ .seqs) (getD (t″ .free) j 0) 0
   left-open-dead j h = ⊎-elim
       (λ (e : j ≡ q .opened - q .held). rw (e, free-top, gone-seq) (omega arith))
-      (λ (e : j ≢ q .opened - q .held). rw (free-rest j e, else-seq (getD (t .free) j 0) (not-root j (entry j h e))) (k .open-dead j (entry j h e)))
+      (λ (e : j ≢ q .opened - q .held). rw (free-rest j e, else-seq (getD (t .free) j 0) (not-root j (entry j h e))) (k .free-seqs j (entry j h e)))
       (eq-cases j (q .opened - q .held))
 
   left-apart : (i j : ℕ) → i < q .opened - (q .held - 1) → j < q .opened - (q .held - 1) → getD (t″ .free) i 0 ≡ getD (t″ .free) j 0 → i ≡ j
@@ -138,7 +138,7 @@ module _ (width : ℕ) (t : Tables) (q : ImpairQueue) (p : Plain) (k : Keeps wid
 
   left-same : Perm (without (getD (t .seqs) root 0) (p .held)) (view (rowOf width t″) (q .leaves))
   left-same = rw (view-pop (rowOf width t) (rowOf width t″) root left-rows root-live (rw gone-seq (omega arith)) (q .leaves)
-      (λ (x : ℕ) (h : x < q .leaves) (u : getD (t .seqs) x 0 < limit) (e : getD (t .seqs) x 0 ≡ getD (t .seqs) root 0). k .uniq root x root-below h root-live e)) (perm-without _ (k .same))
+      (λ (x : ℕ) (h : x < q .leaves) (u : getD (t .seqs) x 0 < seqLimit) (e : getD (t .seqs) x 0 ≡ getD (t .seqs) root 0). k .uniq root x root-below h root-live e)) (perm-without _ (k .same))
 
   left-count : q .held - 1 ≡ length (without (getD (t .seqs) root 0) (p .held))
   left-count =
@@ -170,8 +170,8 @@ module _ (width : ℕ) (t : Tables) (q : ImpairQueue) (p : Plain) (k : Keeps wid
     slots = left-slots;
     unused = λ (x : ℕ) (h : q .opened ≤ x) (l : x < q .leaves). rw (else-seq x (λ (e : x ≡ root). omega (arith, root-used))) (k .unused x h l);
     uniq = left-uniq;
-    open-low = left-open-low;
-    open-dead = left-open-dead;
+    free-low = left-open-low;
+    free-seqs = left-open-dead;
     apart = left-apart;
     count = left-count;
     same-next = k .same-next;

@@ -11,7 +11,7 @@ use lib.Ieee.{Float}
 use borrow.Author.Tests.{lt-ltb, le-ltb, eq-eqb, ne-eqb, ltb-true}
 use Rattle.tournament.specs.Order.{beforeOf}
 use Rattle.queue_laws.specs.Held.{Copy, least, without}
-use Rattle.queue_laws.specs.Laws.Order.{Num, before-asym, before-trans}
+use Rattle.queue_laws.specs.Laws.Order.{Num, before-asym, not-before-trans}
 use Rattle.queue_laws.specs.Laws.Tree.{eq-cases, lt-cases}
 
 -- the same copies, in another order
@@ -125,7 +125,7 @@ least-mem c (x ∷ l) = ⊎-elim
     (least-mem (better x c) l)
 
 le-trans : (a b c : Copy) → Num (a .due) → Num (b .due) → Num (c .due) → Le a b → Le b c → Le a c
-le-trans a b c na nb nc p q = before-trans _ _ _ _ _ _ nc nb na q p
+le-trans a b c na nb nc p q = not-before-trans _ _ _ _ _ _ nc nb na q p
 
 pub least-le : (c : Copy) (l : List Copy) → Sized (c ∷ l) → (x : Copy) → Mem x (c ∷ l) → Le (least c l) x
 unfolding least better
@@ -147,20 +147,20 @@ least-le c (y ∷ l) h x m = go (least-le (better y c) l (num-better y c l h)) m
 -- ---- the rows in use
 
 -- 2 ^ 60: the seq of every copy that is held is below it, and that of a free slot is not
-abbrev pub limit : ℕ
-limit = 1152921504606846976
+abbrev pub seqLimit : ℕ
+seqLimit = 1152921504606846976
 
 -- the rows below n that are in use
 unfoldable pub view : (ℕ → Copy) → ℕ → List Copy
 view row zero = []
-view row (suc n) = cond (ltb (row n .seq) limit) (row n ∷ view row n) (view row n)
+view row (suc n) = cond (ltb (row n .seq) seqLimit) (row n ∷ view row n) (view row n)
 
-pub view-mem : (row : ℕ → Copy) (n s : ℕ) → s < n → row s .seq < limit → Mem (row s) (view row n)
+pub view-mem : (row : ℕ → Copy) (n s : ℕ) → s < n → row s .seq < seqLimit → Mem (row s) (view row n)
 unfolding view
 view-mem row zero s h l = absurd (omega arith)
 view-mem row (suc n) s h l = ⊎-elim
-    (λ (e : s ≡ n). subst (λ (b : Bool). Mem (row s) (cond b (row n ∷ view row n) (view row n))) (sym (lt-ltb (row n .seq) limit (subst (λ (k : ℕ). row k .seq < limit) e l))) (inl (ap row e)))
-    (λ (e : s ≢ n). deeper (ltb (row n .seq) limit) (view-mem row n s (omega arith) l))
+    (λ (e : s ≡ n). subst (λ (b : Bool). Mem (row s) (cond b (row n ∷ view row n) (view row n))) (sym (lt-ltb (row n .seq) seqLimit (subst (λ (k : ℕ). row k .seq < seqLimit) e l))) (inl (ap row e)))
+    (λ (e : s ≢ n). deeper (ltb (row n .seq) seqLimit) (view-mem row n s (omega arith) l))
     (eq-cases s n)
   where
     deeper : (b : Bool) → Mem (row s) (view row n) → Mem (row s) (cond b (row n ∷ view row n) (view row n))
@@ -171,7 +171,7 @@ view-mem row (suc n) s h l = ⊎-elim
 pub record Place (row : ℕ → Copy) (n : ℕ) (c : Copy) : Type 0 where
   pub slot : ℕ
   pub low : slot < n
-  pub used : row slot .seq < limit
+  pub used : row slot .seq < seqLimit
   pub is : c ≡ row slot
 
 place-more : {row : ℕ → Copy} {n : ℕ} {c : Copy} → Place row n c → Place row (suc n) c
@@ -180,9 +180,9 @@ place-more p = record { slot = p .slot; low = omega arith; used = p .used; is = 
 pub view-place : (row : ℕ → Copy) (n : ℕ) (c : Copy) → Mem c (view row n) → Place row n c
 unfolding view
 view-place row zero c m = absurd m
-view-place row (suc n) c m = go (ltb (row n .seq) limit) refl m (λ (k : Mem c (view row n)). view-place row n c k)
+view-place row (suc n) c m = go (ltb (row n .seq) seqLimit) refl m (λ (k : Mem c (view row n)). view-place row n c k)
   where
-    go : (b : Bool) → ltb (row n .seq) limit ≡ b → Mem c (cond b (row n ∷ view row n) (view row n)) → (Mem c (view row n) → Place row n c) → Place row (suc n) c
+    go : (b : Bool) → ltb (row n .seq) seqLimit ≡ b → Mem c (cond b (row n ∷ view row n) (view row n)) → (Mem c (view row n) → Place row n c) → Place row (suc n) c
     go true e (inl q) ih = record { slot = n; low = omega arith; used = ltb-true _ _ e; is = q }
     go true e (inr k) ih = place-more (ih k)
     go false e k ih = place-more (ih k)
@@ -192,16 +192,16 @@ pub view-same : (row row′ : ℕ → Copy) (n : ℕ) → ((x : ℕ) → x < n �
 unfolding view
 view-same row row′ zero h = refl
 view-same row row′ (suc n) h =
-    ap (λ (c : Copy). cond (ltb (c .seq) limit) (c ∷ view row n) (view row n)) (h n (omega arith))
-    ∙ ap (λ (l : List Copy). cond (ltb (row′ n .seq) limit) (row′ n ∷ l) l) (view-same row row′ n (λ (x : ℕ) (l : x < n). h x (omega arith)))
+    ap (λ (c : Copy). cond (ltb (c .seq) seqLimit) (c ∷ view row n) (view row n)) (h n (omega arith))
+    ∙ ap (λ (l : List Copy). cond (ltb (row′ n .seq) seqLimit) (row′ n ∷ l) l) (view-same row row′ n (λ (x : ℕ) (l : x < n). h x (omega arith)))
 
 -- more rows, none in use
-pub view-more : (row : ℕ → Copy) (n m : ℕ) → n ≤ m → ((x : ℕ) → n ≤ x → x < m → limit ≤ row x .seq) → view row m ≡ view row n
+pub view-more : (row : ℕ → Copy) (n m : ℕ) → n ≤ m → ((x : ℕ) → n ≤ x → x < m → seqLimit ≤ row x .seq) → view row m ≡ view row n
 unfolding view
 view-more row n zero h d = ap (view row) (let z : _≡_ {A = ℕ} 0 n = omega arith in z)
 view-more row n (suc m) h d = ⊎-elim
     (λ (e : n ≡ suc m). rw e)
-    (λ (e : n ≢ suc m). rw (le-ltb (row m .seq) limit (d m (omega arith) (omega arith))) (view-more row n m (omega arith) (λ (x : ℕ) (a : n ≤ x) (b : x < m). d x a (omega arith))))
+    (λ (e : n ≢ suc m). rw (le-ltb (row m .seq) seqLimit (d m (omega arith) (omega arith))) (view-more row n m (omega arith) (λ (x : ℕ) (a : n ≤ x) (b : x < m). d x a (omega arith))))
     (eq-cases n (suc m))
 
 -- ---- a row changes
@@ -211,41 +211,41 @@ module _ (row row′ : ℕ → Copy) (s : ℕ) (other : (x : ℕ) → x ≢ s �
   unfolding view
   view-below zero h = refl
   view-below (suc n) h =
-      ap (λ (c : Copy). cond (ltb (c .seq) limit) (c ∷ view row′ n) (view row′ n)) (other n (omega arith))
-      ∙ ap (λ (l : List Copy). cond (ltb (row n .seq) limit) (row n ∷ l) l) (view-below n (omega arith))
+      ap (λ (c : Copy). cond (ltb (c .seq) seqLimit) (c ∷ view row′ n) (view row′ n)) (other n (omega arith))
+      ∙ ap (λ (l : List Copy). cond (ltb (row n .seq) seqLimit) (row n ∷ l) l) (view-below n (omega arith))
 
   -- a free slot is taken
-  pub view-push : limit ≤ row s .seq → row′ s .seq < limit → (n : ℕ) → s < n → Perm (row′ s ∷ view row n) (view row′ n)
+  pub view-push : seqLimit ≤ row s .seq → row′ s .seq < seqLimit → (n : ℕ) → s < n → Perm (row′ s ∷ view row n) (view row′ n)
   unfolding view
   view-push dead live zero h = absurd (omega arith)
   view-push dead live (suc n) h = ⊎-elim
       (λ (e : s ≡ n). here e)
-      (λ (e : s ≢ n). rw (other n (λ (q : n ≡ s). e (sym q))) (deeper (ltb (row n .seq) limit) (view-push dead live n (omega arith))))
+      (λ (e : s ≢ n). rw (other n (λ (q : n ≡ s). e (sym q))) (deeper (ltb (row n .seq) seqLimit) (view-push dead live n (omega arith))))
       (eq-cases s n)
     where
-      here : s ≡ n → Perm (row′ s ∷ cond (ltb (row n .seq) limit) (row n ∷ view row n) (view row n)) (cond (ltb (row′ n .seq) limit) (row′ n ∷ view row′ n) (view row′ n))
-      here e = rw (← e, le-ltb (row s .seq) limit dead, lt-ltb (row′ s .seq) limit live, view-below s (omega arith)) (perm-refl _)
+      here : s ≡ n → Perm (row′ s ∷ cond (ltb (row n .seq) seqLimit) (row n ∷ view row n) (view row n)) (cond (ltb (row′ n .seq) seqLimit) (row′ n ∷ view row′ n) (view row′ n))
+      here e = rw (← e, le-ltb (row s .seq) seqLimit dead, lt-ltb (row′ s .seq) seqLimit live, view-below s (omega arith)) (perm-refl _)
 
       deeper : (b : Bool) → Perm (row′ s ∷ view row n) (view row′ n) → Perm (row′ s ∷ cond b (row n ∷ view row n) (view row n)) (cond b (row n ∷ view row′ n) (view row′ n))
       deeper true p = trans (swap (row′ s) (row n) (view row n)) (skip (row n) p)
       deeper false p = p
 
   -- a slot in use is freed: all but the copy with its number is left
-  pub view-pop : row s .seq < limit → limit ≤ row′ s .seq → (n : ℕ) → ((x : ℕ) → x < n → row x .seq < limit → row x .seq ≡ row s .seq → x ≡ s) → view row′ n ≡ without (row s .seq) (view row n)
+  pub view-pop : row s .seq < seqLimit → seqLimit ≤ row′ s .seq → (n : ℕ) → ((x : ℕ) → x < n → row x .seq < seqLimit → row x .seq ≡ row s .seq → x ≡ s) → view row′ n ≡ without (row s .seq) (view row n)
   unfolding view without
   view-pop live dead zero uniq = refl
   view-pop live dead (suc n) uniq =
       let ih : view row′ n ≡ without (row s .seq) (view row n) = view-pop live dead n (λ (x : ℕ) (h : x < n). uniq x (omega arith)) in
       ⊎-elim
       (λ (e : n ≡ s). here e ih)
-      (λ (e : n ≢ s). rw (other n e) (deeper e (lt-cases (row n .seq) limit) ih))
+      (λ (e : n ≢ s). rw (other n e) (deeper e (lt-cases (row n .seq) seqLimit) ih))
       (eq-cases n s)
     where
-      here : n ≡ s → view row′ n ≡ without (row s .seq) (view row n) → cond (ltb (row′ n .seq) limit) (row′ n ∷ view row′ n) (view row′ n) ≡ without (row s .seq) (cond (ltb (row n .seq) limit) (row n ∷ view row n) (view row n))
+      here : n ≡ s → view row′ n ≡ without (row s .seq) (view row n) → cond (ltb (row′ n .seq) seqLimit) (row′ n ∷ view row′ n) (view row′ n) ≡ without (row s .seq) (cond (ltb (row n .seq) seqLimit) (row n ∷ view row n) (view row n))
       here e h =
           let k : view row′ s ≡ without (row s .seq) (view row s) = rw e at h in
-          rw (e, le-ltb (row′ s .seq) limit dead, lt-ltb (row s .seq) limit live, eq-eqb (row s .seq) (row s .seq) refl) k
+          rw (e, le-ltb (row′ s .seq) seqLimit dead, lt-ltb (row s .seq) seqLimit live, eq-eqb (row s .seq) (row s .seq) refl) k
 
-      deeper : n ≢ s → (row n .seq < limit) ⊎ (limit ≤ row n .seq) → view row′ n ≡ without (row s .seq) (view row n) → cond (ltb (row n .seq) limit) (row n ∷ view row′ n) (view row′ n) ≡ without (row s .seq) (cond (ltb (row n .seq) limit) (row n ∷ view row n) (view row n))
-      deeper e (inl l) h = rw (lt-ltb (row n .seq) limit l, ne-eqb (row n .seq) (row s .seq) (λ (q : row n .seq ≡ row s .seq). e (uniq n (omega arith) l q))) (ap (λ (k : List Copy). row n ∷ k) h)
-      deeper e (inr l) h = rw (le-ltb (row n .seq) limit l) h
+      deeper : n ≢ s → (row n .seq < seqLimit) ⊎ (seqLimit ≤ row n .seq) → view row′ n ≡ without (row s .seq) (view row n) → cond (ltb (row n .seq) seqLimit) (row n ∷ view row′ n) (view row′ n) ≡ without (row s .seq) (cond (ltb (row n .seq) seqLimit) (row n ∷ view row n) (view row n))
+      deeper e (inl l) h = rw (lt-ltb (row n .seq) seqLimit l, ne-eqb (row n .seq) (row s .seq) (λ (q : row n .seq ≡ row s .seq). e (uniq n (omega arith) l q))) (ap (λ (k : List Copy). row n ∷ k) h)
+      deeper e (inr l) h = rw (le-ltb (row n .seq) seqLimit l) h

@@ -1,4 +1,4 @@
--- A node has the least slot of the leaves below it. A slot's new key changes only the nodes on the way from its leaf to the root, and where these are made
+-- A node has the least slot of the leaves below it. A slot's new key changes only the nodes on the path from its leaf to the root, and where these are made
 -- anew, every node has its least slot again. So the root has the least of all slots.
 use mathlib.Core.Path.{_≡_, refl, sym, ap, _∙_, subst}
 use mathlib.Core.Logic.{_≢_, _⊎_, inl, inr, ⊎-elim}
@@ -14,8 +14,8 @@ use lib.Ieee.{Float}
 use borrow.Author.Tests.{lt-ltb, le-ltb}
 use Rattle.numbers.specs.Whole.{whole}
 use Rattle.tournament.specs.Nodes.{lessOf, slotAtOf, winnerOf, sibling}
-use Rattle.tournament.specs.Ways.{betterOf, carriedOf, climbedOf}
-use Rattle.queue_laws.specs.Laws.Order.{Num, before-asym, before-trans}
+use Rattle.tournament.specs.Paths.{betterOf, carriedOf, climbedOf}
+use Rattle.queue_laws.specs.Laws.Order.{Num, before-asym, not-before-trans}
 
 -- ---- two cases
 
@@ -53,10 +53,10 @@ pub due-order : (dues : List Float) (seqs : List ℕ) (n : ℕ) → ((s : ℕ) �
 unfolding lessOf
 due-order dues seqs n num = record {
   asym = λ (a b : ℕ) (ha : a < n) (hb : b < n). before-asym _ _ _ _;
-  tr = λ (a b c : ℕ) (ha : a < n) (hb : b < n) (hc : c < n). before-trans _ _ _ _ _ _ (num a ha) (num b hb) (num c hc);
+  tr = λ (a b c : ℕ) (ha : a < n) (hb : b < n) (hc : c < n). not-before-trans _ _ _ _ _ _ (num a ha) (num b hb) (num c hc);
 }
 
--- ---- the way from a node to the root
+-- ---- the path from a node to the root
 
 -- the node that is f levels above node k
 unfoldable pub halves : ℕ → ℕ → ℕ
@@ -73,11 +73,11 @@ unfolding halves
 halves-le zero k = omega arith
 halves-le (suc f) k = omega (arith, halves-le f k)
 
--- node i is not on the way from node k to the root
+-- node i is not on the path from node k to the root
 abbrev pub Off : ℕ → ℕ → Type 0
 Off k i = (f : ℕ) → halves f k ≡ i → ⊥
 
--- node i is on the way from node x to the root
+-- node i is on the path from node x to the root
 pub record Under (i x : ℕ) : Type 0 where
   pub steps : ℕ
   pub there : halves steps x ≡ i
@@ -203,7 +203,7 @@ module _ (less : ℕ → ℕ → Bool) (n : ℕ) where
         least = λ (c : ℕ) (h : c / 2 ≡ i). rw (e, val-set win n k c w (λ (q : c ≡ k). nc (rw q at h))) (g .least c h);
       }
 
-  -- each node off the way from k was good, and k gets what won there: each node off the way from k's parent is good
+  -- each node off the path from k was good, and k gets what won there: each node off the path from k's parent is good
   turn : (win : List ℕ) (k w : ℕ) → 0 < k → k < n → n ≤ length win → ((i : ℕ) → 0 < i → i < n → Off k i → Good win i) → Won win k w
       → (i : ℕ) → 0 < i → i < n → Off (k / 2) i → Good (set win k w) i
   turn win k w pos low long good v i p l off = ⊎-elim
@@ -245,7 +245,7 @@ module _ (dues : List Float) (seqs : List ℕ) (n : ℕ) (o : Order (lessOf dues
           rw (winner-better win k) (rw half at (better-won win (2 * k) (slotAtOf win n (2 * k)) (omega arith) refl
           (lows (2 * k) (omega arith) (omega arith)) (lows (sibling (2 * k)) (omega arith) (omega arith))))
 
-  -- each node off the way from c's parent was good: with the winner carried from c to the root every node is
+  -- each node off the path from c's parent was good: with the winner carried from c to the root every node is
   pub carried-good : (f c w : ℕ) (win : List ℕ) → c ≤ f → 0 < c → c < n + n → n ≤ length win → w ≡ slotAtOf win n c
       → ((i : ℕ) → 0 < i → i < n → Off (c / 2) i → Gd win i)
       → (i : ℕ) → 0 < i → i < n → Gd (carriedOf dues seqs n f win c w) i
@@ -320,7 +320,7 @@ module _ (dues : List Float) (seqs : List ℕ) (n : ℕ) (o : Order (lessOf dues
           child : (y : ℕ) → getD win i 0 < n → K (slotAtOf win n y) (getD win i 0) ≡ false → K (slotAtOf (set win k s) n y) (getD win i 0) ≡ false
           child y lo e = ⊎-elim (λ (q : y ≡ k). rw (q, val-here win n k s low-k long) (great _ lo)) (λ (q : y ≢ k). rw (val-set win n k y s q) e) (eq-cases y k)
 
-    -- each node off the way from c's parent is good, and those on it were by K: with s put at each node that it wins, from c up, every node is
+    -- each node off the path from c's parent is good, and those on it were by K: with s put at each node that it wins, from c up, every node is
     pub climbed-good : (f c : ℕ) (win : List ℕ) → c ≤ f → 0 < c → c < n + n → n ≤ length win → s ≡ slotAtOf win n c
         → ((x : ℕ) → 0 < x → x < n + n → slotAtOf win n x < n)
         → ((i : ℕ) → 0 < i → i ≤ c / 2 → Good K n win i)
@@ -371,7 +371,7 @@ module _ (dues : List Float) (seqs : List ℕ) (n : ℕ) (o : Order (lessOf dues
         let e : slotAtOf win n (n + s) ≡ s = val-leaf win n (n + s) (omega arith) ∙ omega arith in
         rw e at (root-least (n + s) (n + s) (omega arith) (omega arith) (omega arith))
 
--- slot s has another key: each node off the way from its leaf's parent stays good
+-- slot s has another key: each node off the path from its leaf's parent stays good
 module _ (K K′ : ℕ → ℕ → Bool) (n s : ℕ) (low-s : s < n) (other : (x y : ℕ) → x ≢ s → y ≢ s → K′ x y ≡ K x y) (win : List ℕ) where
   not-under : (i : ℕ) → i < n → Off ((n + s) / 2) i → Under i (s + n) → ⊥
   not-under i low o u = go (u .steps) (u .there)

@@ -1,4 +1,4 @@
--- Each return by the tests before it; else the two stores and the way, by their contracts.
+-- Each return by the tests before it; else the two stores and the path, by their contracts.
 use Rattle.tournament.proofs.CallSteps.{leave-over, leave-past, leave-done}
 use mathlib.Core.Path.{refl}
 use borrow.Author.Needs.{needs}

@@ -1,8 +1,8 @@
--- The loop's invariant: what is left of the way gives what the whole way gives, and `best_due` is the due of `best`. The measure is the node.
+-- The loop's invariant: what is left of the path gives what the whole path gives, and `best_due` is the due of `best`. The measure is the node.
 use mathlib.Core.Path.{refl}
 use native.Mathlib.Omega.{arith}
 use borrow.Author.Needs.{needs}
-use Rattle.tournament.proofs.WaySteps.{Carry, carry-start, carry-done, carry-turn}
+use Rattle.tournament.proofs.PathSteps.{Carry, carry-start, carry-done, carry-turn}
 use Rattle.tournament.proofs.carry.carry.Statement.{statement}
 use Rattle.tournament.proofs.carry.carry.Tie as tie
 

@@ -1,6 +1,6 @@
 -- The loop's invariant: what is left of the climb gives what the whole climb gives. The measure is the node.
 use borrow.Author.Needs.{needs}
-use Rattle.tournament.proofs.WaySteps.{Climb, climb-start, climb-done, climb-stop, climb-turn}
+use Rattle.tournament.proofs.PathSteps.{Climb, climb-start, climb-done, climb-stop, climb-turn}
 use Rattle.tournament.proofs.KeySteps.{sibling-less}
 use Rattle.tournament.proofs.climb.climb.Statement.{statement}
 use Rattle.tournament.proofs.climb.climb.Tie as tie

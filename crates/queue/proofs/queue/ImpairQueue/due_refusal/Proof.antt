@@ -1,5 +1,6 @@
 -- The refusal of the state by its contract.
-use Rattle.queue.specs.Calls.{dueRefusal}
+use Rattle.queue.specs.Refusals.{dueRefusal}
+use Rattle.queue.specs.Calls.{}
 use borrow.Author.Needs.{needs}
 use Rattle.queue.proofs.queue.ImpairQueue.due_refusal.Statement.{statement}
 use Rattle.queue.proofs.queue.ImpairQueue.due_refusal.Tie as tie

@@ -46,8 +46,8 @@ cast-get-f64 c = search needs
 get-f64-requires : tie.Need-get-f64-requires
 get-f64-requires c κs = search needs
 
-leaves-slot-requires : tie.Need-leaves-slot-requires
-leaves-slot-requires c κs = (omega (arith, c .before .before .before .before .before .before .before .before .before .before .before .if2 .left), (release-passed _ _ _ (sym (c .before .before .before .before .before .before .before .before .before .before .before .before .before .before .release-refusal .ensures) ∙ c .before .before .before .before .before .before .before .before .before .before .before .before .before .if1 .left)) .held-within)
+release-slot-requires : tie.Need-release-slot-requires
+release-slot-requires c κs = (omega (arith, c .before .before .before .before .before .before .before .before .before .before .before .if2 .left), (release-passed _ _ _ (sym (c .before .before .before .before .before .before .before .before .before .before .before .before .before .before .release-refusal .ensures) ∙ c .before .before .before .before .before .before .before .before .before .before .before .before .before .if1 .left)) .held-within)
 
 same-length-2 : tie.Need-same-length-2
 same-length-2 c = search needs
@@ -65,7 +65,7 @@ returns-5 : tie.Need-returns-5
 returns-5 c = release-later _ _ _ _ _ _ _ (c .before .before .before .before .before .before .before .before .before .before .before .before .before .shortest .ensures) (c .before .before .before .before .before .before .before .before .before .before .before .before .has-room .ensures) (c .before .before .before .before .before .before .before .before .before .before .before .release-refusal .ensures) _ (c .before .before .before .before .before .before .before .before .before .before .if1 .left) (c .before .before .before .before .before .before .before .before .if2 .left) (c .before .before .before .before .before .before .least .ensures) _ _ (c .before .before .before .before .if3 .left) (c .before .before .get-f64 .ensures) (c .before .if4 .left) (c .stays4 .ensures)
 
 returns-4 : tie.Need-returns-4
-returns-4 c = release-done _ _ _ _ _ _ _ (c .before .before .before .before .before .before .before .before .before .before .before .before .before .before .before .before .before .before .before .before .before .before .before .before .before .shortest .ensures) (c .before .before .before .before .before .before .before .before .before .before .before .before .before .before .before .before .before .before .before .before .before .before .before .before .has-room .ensures) (c .before .before .before .before .before .before .before .before .before .before .before .before .before .before .before .before .before .before .before .before .before .before .before .release-refusal .ensures) _ (c .before .before .before .before .before .before .before .before .before .before .before .before .before .before .before .before .before .before .before .before .before .before .if1 .left) (c .before .before .before .before .before .before .before .before .before .before .before .before .before .before .before .before .before .before .before .before .if2 .left) (c .before .before .before .before .before .before .before .before .before .before .before .before .before .before .before .before .before .before .least .ensures) _ _ (c .before .before .before .before .before .before .before .before .before .before .before .before .before .before .before .before .if3 .left) (c .before .before .before .before .before .before .before .before .before .before .before .before .before .before .get-f64 .ensures) (c .before .before .before .before .before .before .before .before .before .before .before .before .before .if4 .taken) (c .before .before .before .before .before .before .before .before .leaves-slot .ensures)
+returns-4 c = release-done _ _ _ _ _ _ _ (c .before .before .before .before .before .before .before .before .before .before .before .before .before .before .before .before .before .before .before .before .before .before .before .before .before .shortest .ensures) (c .before .before .before .before .before .before .before .before .before .before .before .before .before .before .before .before .before .before .before .before .before .before .before .before .has-room .ensures) (c .before .before .before .before .before .before .before .before .before .before .before .before .before .before .before .before .before .before .before .before .before .before .before .release-refusal .ensures) _ (c .before .before .before .before .before .before .before .before .before .before .before .before .before .before .before .before .before .before .before .before .before .before .if1 .left) (c .before .before .before .before .before .before .before .before .before .before .before .before .before .before .before .before .before .before .before .before .if2 .left) (c .before .before .before .before .before .before .before .before .before .before .before .before .before .before .before .before .before .before .least .ensures) _ _ (c .before .before .before .before .before .before .before .before .before .before .before .before .before .before .before .before .if3 .left) (c .before .before .before .before .before .before .before .before .before .before .before .before .before .before .get-f64 .ensures) (c .before .before .before .before .before .before .before .before .before .before .before .before .before .if4 .taken) (c .before .before .before .before .before .before .before .before .release-slot .ensures)
 
 stays-requires-4 : tie.Need-stays-requires-4
 stays-requires-4 c κs = search needs
@@ -93,7 +93,7 @@ release-spec =
     returns-3
     cast-get-f64
     get-f64-requires
-    leaves-slot-requires
+    release-slot-requires
     same-length-2
     same-length-3
     same-length-4

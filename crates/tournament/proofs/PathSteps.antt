@@ -10,7 +10,7 @@ use borrow.Author.Tests.{lt-ltb, le-ltb}
 use Rattle.numbers.specs.Whole.{whole}
 use Rattle.tournament.specs.Order.{beforeOf}
 use Rattle.tournament.specs.Nodes.{slotAtOf, lessOf, sibling}
-use Rattle.tournament.specs.Ways.{betterOf, carriedOf, climbedOf}
+use Rattle.tournament.specs.Paths.{betterOf, carriedOf, climbedOf}
 use Rattle.tournament.proofs.KeySteps.{sibling-less}
 
 -- what is left of the climb at (win, c) gives what the whole climb gives

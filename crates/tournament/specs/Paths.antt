@@ -1,4 +1,4 @@
--- The way from a node to the root, each node of it made anew. `fuel` bounds the nodes.
+-- The path from a node to the root, each node of it made anew. `fuel` bounds the nodes.
 use mathlib.Core.Bool.{cond}
 use mathlib.Core.List.{List}
 use Prim.Native.Nat.{ℕ, zero, suc, _/_}

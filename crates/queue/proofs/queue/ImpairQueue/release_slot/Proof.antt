@@ -1,8 +1,8 @@
 -- The slot, the stack of slots and the tournament by their contracts.
 use Rattle.queue.proofs.ReleaseSteps.{left-is}
 use borrow.Author.Needs.{needs}
-use Rattle.queue.proofs.queue.ImpairQueue.leaves_slot.Statement.{statement}
-use Rattle.queue.proofs.queue.ImpairQueue.leaves_slot.Tie as tie
+use Rattle.queue.proofs.queue.ImpairQueue.release_slot.Statement.{statement}
+use Rattle.queue.proofs.queue.ImpairQueue.release_slot.Tie as tie
 
 queued-requires : tie.Need-queued-requires
 queued-requires c κs = search needs
@@ -37,8 +37,8 @@ same-length-4 c = search needs
 returns : tie.Need-returns
 returns c = left-is _ _ _ _ _ _ _ _ _ (c .before .before .before .before .before .before .before .before .before .before .before .before .before .before .before .before .queued .ensures) (c .before .before .before .before .before .before .before .before .before .before .before .before .before .set-u32 .ensures) (c .before .before .before .before .before .before .before .leave .ensures) (c .one-less .ensures)
 
-pub leaves-slot-spec : {M : Type 1} → statement M
-leaves-slot-spec =
+pub release-slot-spec : {M : Type 1} → statement M
+release-slot-spec =
     tie.close
     (tie.spec
     queued-requires
