@@ -9,7 +9,7 @@ use Rattle.numbers.specs.Laws.Both.{both-true}
 use Rattle.numbers.specs.Limits.{maxCapacity}
 use Rattle.numbers.specs.Refusals.{refusedCapacity, refusedMemory}
 use Rattle.queue.specs.Tables.{Tables}
-use Rattle.queue.specs.Refusals.{hasRoom}
+use Rattle.queue.specs.Room.{hasRoom}
 use Rattle.queue.specs.Calls.{fresh, notCreated, createOf}
 use Rattle.queue.specs.declared.queue.ImpairQueue.{ImpairQueue}
 use Rattle.queue.specs.declared.answers.Created.{Created}

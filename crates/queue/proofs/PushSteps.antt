@@ -10,7 +10,8 @@ use Rattle.numbers.specs.Refusals.{refusedKeeping}
 use Rattle.tournament.specs.Calls.{fitsOf, enterOf}
 use Rattle.tournament.specs.Growth.{Tree, tree}
 use Rattle.queue.specs.Tables.{Tables, tables, after, Rows, rows, rowsOf, writtenOf, treeOf}
-use Rattle.queue.specs.Refusals.{hasRoom, memoryOf, pushRefusal}
+use Rattle.queue.specs.Refusals.{memoryOf, pushRefusal}
+use Rattle.queue.specs.Room.{hasRoom}
 use Rattle.queue.specs.Calls.{queue, nextSlot, oneMore, notPushed, enteredOf, pushOf}
 use Rattle.queue.specs.declared.queue.ImpairQueue.{ImpairQueue}
 use Rattle.queue.specs.declared.answers.Pushed.{Pushed}

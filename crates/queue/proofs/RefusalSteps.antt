@@ -1,19 +1,20 @@
 -- What the refusals are made of, and what a call that meets none has passed.
 use mathlib.Core.Path.{_≡_, refl, sym, ap, _∙_}
-use mathlib.Core.Bool.{Bool, true, false, not, Bool·not-not}
-use Prim.Native.Nat.{ℕ, _<_, _≤_, _^_}
+use mathlib.Core.Bool.{Bool, true, false, not, _&&_, Bool·not-not}
+use Prim.Native.Nat.{ℕ, _<_, _≤_, _^_, min}
 use native.Mathlib.Omega.{arith}
 use lib.Dec.{leb, eqb}
 use lib.Ieee.{Float, isNan, eq, ne}
 use lib.ListN.{length}
-use borrow.Author.Tests.{leb-true}
+use borrow.Author.Tests.{le-leb, lt-leb, leb-true, leb-false}
 use Rattle.numbers.specs.Instant.{isInstantOf}
 use Rattle.numbers.specs.Limits.{maxCapacity, isCounterOf}
 use Rattle.numbers.specs.Laws.Both.{both-true}
 use Rattle.numbers.specs.Laws.Kinds.{nan-differs}
 use Rattle.numbers.specs.Laws.Limits.{counter-below}
 use Rattle.queue.specs.Tables.{Tables}
-use Rattle.queue.specs.Refusals.{refusalOf, hasRoom, shortestOf, memoryOf, inKeeping, pushRefusal, releaseRefusal}
+use Rattle.queue.specs.Refusals.{refusalOf, memoryOf, inKeeping, pushRefusal, releaseRefusal}
+use Rattle.queue.specs.Room.{hasRoom, shortestOf}
 use Rattle.queue.specs.declared.queue.ImpairQueue.{ImpairQueue}
 
 -- only a NaN is not equal to itself
@@ -75,6 +76,29 @@ release-passed q memory now h =
 abbrev pub shortestIn : Tables → ℕ
 shortestIn t = shortestOf (length (t .win)) (length (t .free)) (length (t .dues)) (length (t .seqs)) (length (t .arrivals)) (length (t .routes)) (length (t .copyIds)) (length (t .lengths))
 
+-- a number is at most the least of two where it is at most each
+leb-min : (c a b : ℕ) → leb c (min a b) ≡ (leb c a && leb c b)
+leb-min c a b = go (leb c a) refl (leb c b) refl
+  where
+    go : (x : Bool) → leb c a ≡ x → (y : Bool) → leb c b ≡ y → leb c (min a b) ≡ (x && y)
+    go true ex true ey = le-leb c (min a b) (omega (arith, leb-true c a ex, leb-true c b ey))
+    go true ex false ey = lt-leb c (min a b) (omega (arith, leb-false c b ey))
+    go false ex y ey = lt-leb c (min a b) (omega (arith, leb-false c a ex))
+
+-- eight tests by pairs, and one after the other
+one-by-one : (a b c d e f g h : Bool) → (((a && b) && (c && d)) && ((e && f) && (g && h))) ≡ (a && b && c && d && e && f && g && h)
+one-by-one false b c d e f g h = refl
+one-by-one true false c d e f g h = refl
+one-by-one true true false d e f g h = refl
+one-by-one true true true false e f g h = refl
+one-by-one true true true true false f g h = refl
+one-by-one true true true true true false g h = refl
+one-by-one true true true true true true g h = refl
+
+pub room-is : (width cap : ℕ) (t : Tables) → hasRoom width cap (shortestIn t) (length (t .store)) ≡ memoryOf width cap t
+unfolding hasRoom shortestOf memoryOf
+room-is width cap t = rw (leb-min, leb-min, leb-min, leb-min, leb-min, leb-min, leb-min, one-by-one)
+
 -- whether the memory has room, as the code asks it
 pub memory-is : (width cap shortest : ℕ) (t : Tables) (memory : Bool) → shortest ≡ shortestIn t → memory ≡ hasRoom width cap shortest (length (t .store)) → memory ≡ memoryOf width cap t
-memory-is width cap shortest t memory es em = em ∙ ap (λ (s : ℕ). hasRoom width cap s (length (t .store))) es
+memory-is width cap shortest t memory es em = em ∙ ap (λ (s : ℕ). hasRoom width cap s (length (t .store))) es ∙ room-is width cap t

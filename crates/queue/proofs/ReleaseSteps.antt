@@ -11,7 +11,8 @@ use Rattle.numbers.specs.Whole.{whole}
 use Rattle.tournament.specs.Calls.{leaveOf, leastOf}
 use Rattle.tournament.specs.Growth.{tree}
 use Rattle.queue.specs.Tables.{Tables, After, after, rowsOf, treeOf, joined}
-use Rattle.queue.specs.Refusals.{hasRoom, memoryOf, releaseRefusal}
+use Rattle.queue.specs.Refusals.{memoryOf, releaseRefusal}
+use Rattle.queue.specs.Room.{hasRoom}
 use Rattle.queue.specs.Calls.{queuedOf, oneLess, notReleased, leftOf, dueOf, releaseOf}
 use Rattle.queue.specs.declared.queue.ImpairQueue.{ImpairQueue}
 use Rattle.queue.specs.declared.answers.Queued.{Queued}

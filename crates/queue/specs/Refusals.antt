@@ -1,6 +1,6 @@
 -- "Order: .. creation 29, 24, 23; calls 23, 29, 21, 22, 27, 25, 28, those that apply": 29 is not the queue's. 26 stands where what is found is out of keeping.
 use mathlib.Core.Bool.{Bool, true, cond, not, _&&_}
-use Prim.Native.Nat.{ℕ, _*_, min}
+use Prim.Native.Nat.{ℕ, _*_}
 use lib.Dec.{leb, eqb}
 use lib.Ieee.{Float, isNan}
 use lib.ListN.{length}
@@ -25,18 +25,12 @@ refusalOf memory instant len due counter keeping space =
     (cond (not keeping) refusedKeeping
     (cond (not space) refusedFull 0))))))
 
--- "The lent store has at least capacity × 2,048 bytes, and every other lent table at least capacity entries": by the shortest of the tables
-unfoldable pub hasRoom : ℕ → ℕ → ℕ → ℕ → Bool
-hasRoom width cap shortest store = leb cap shortest && leb (cap * width) store
-
-unfoldable pub shortestOf : ℕ → ℕ → ℕ → ℕ → ℕ → ℕ → ℕ → ℕ → ℕ
-shortestOf a b c d e f g h = min (min (min a b) (min c d)) (min (min e f) (min g h))
-
-abbrev pub memoryOf : ℕ → ℕ → Tables → Bool
+-- "The lent store has at least capacity × 2,048 bytes, and every other lent table at least capacity entries"
+unfoldable pub memoryOf : ℕ → ℕ → Tables → Bool
 memoryOf width cap t =
-    hasRoom width cap
-    (shortestOf (length (t .win)) (length (t .free)) (length (t .dues)) (length (t .seqs)) (length (t .arrivals)) (length (t .routes)) (length (t .copyIds)) (length (t .lengths)))
-    (length (t .store))
+    leb cap (length (t .win)) && leb cap (length (t .free)) && leb cap (length (t .dues)) && leb cap (length (t .seqs))
+    && leb cap (length (t .arrivals)) && leb cap (length (t .routes)) && leb cap (length (t .copyIds)) && leb cap (length (t .lengths))
+    && leb (cap * width) (length (t .store))
 
 -- held ≤ opened ≤ leaves ≤ capacity ≤ 1,048,576
 unfoldable pub inKeeping : ImpairQueue → Bool

@@ -1,7 +1,8 @@
 // Which refusal meets a call.
 ghost use mathlib.Core.Path.{_≡_};
 ghost use Prim.Native.Nat.{min};
-ghost use Rattle.queue.specs.Refusals.{refusalOf, slotWidth, hasRoom, shortestOf, inKeeping, stateRefusal};
+ghost use Rattle.queue.specs.Refusals.{refusalOf, slotWidth, inKeeping, stateRefusal};
+ghost use Rattle.queue.specs.Room.{hasRoom, shortestOf};
 use crate::queue::ImpairQueue;
 use crate::store::SLOT_WIDTH;
 use numbers::MAX_CAPACITY;

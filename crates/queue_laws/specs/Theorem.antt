@@ -1,5 +1,6 @@
 -- THE THEOREM over what the functions of crates/queue themselves ensure: for every list of calls on a queue that `create` made, over any lent memory, each
--- call answered and each table left as the contract of `push`, `release` or `drain` says, the replies are the plain queue's.
+-- call answered and each table left as the contract of `push`, `release` or `drain` says, and each released copy's bytes read as that of `payload` says, the
+-- replies are the plain queue's.
 use mathlib.Core.Path.{_≡_, refl, sym, ap, _∙_}
 use mathlib.Core.List.{List, [], _∷_}
 use Prim.Native.Nat.{ℕ}
@@ -11,12 +12,15 @@ use borrow.Fn.Kinds as Kinds'
 use denote.Triple.Clauses
 use Rattle.queue.specs.Tables.{Tables, tables, After, after}
 use Rattle.queue.specs.Refusals.{slotWidth}
-use Rattle.queue.specs.Calls.{createOf, pushOf, releaseOf, drainOf}
+use Rattle.queue.specs.Calls.{createOf, pushOf, releaseOf, drainOf, payloadOf}
 use Rattle.queue.specs.declared.queue.ImpairQueue.{ImpairQueue}
 use Rattle.queue.specs.declared.answers.Created.{Created}
 use Rattle.queue.specs.declared.answers.CreateAnswer.the-variants as created
 use Rattle.queue.specs.declared.answers.Pushed.{Pushed}
+use Rattle.queue.specs.declared.answers.Queued.{Queued}
 use Rattle.queue.specs.declared.answers.Released.{Released}
+use Rattle.queue.specs.declared.answers.ReleaseAnswer.{ReleaseAnswer}
+use Rattle.queue.specs.declared.answers.ReleaseAnswer.the-variants as answered
 use Rattle.queue.specs.declared.answers.Drained.{Drained}
 use Rattle.queue.proofs.queue.ImpairQueue.create as create-fn
 use Rattle.queue.proofs.queue.ImpairQueue.create.Reads as create
@@ -30,7 +34,10 @@ use Rattle.queue.proofs.queue.ImpairQueue.release.Kinds as release-kinds
 use Rattle.queue.proofs.queue.ImpairQueue.drain as drain-fn
 use Rattle.queue.proofs.queue.ImpairQueue.drain.Reads as drain
 use Rattle.queue.proofs.queue.ImpairQueue.drain.Kinds as drain-kinds
-use Rattle.queue_laws.specs.Held.{Call, push as pushCall, release as releaseCall, drain as drainCall, Reply, plain, run}
+use Rattle.queue.proofs.payload as payload-fn
+use Rattle.queue.proofs.payload.Reads as payload
+use Rattle.queue.proofs.payload.Kinds as payload-kinds
+use Rattle.queue_laws.specs.Held.{copy, Call, push as pushCall, release as releaseCall, drain as drainCall, Reply, released, noneDue, refused, plain, run}
 use Rattle.queue_laws.specs.Replies.{saidOfPush, saidOfRelease, saidOfDrain, saidByPush, saidByRelease, saidByDrain, answerTo, answersTo}
 use Rattle.queue_laws.specs.Laws.Runs.{created-agrees}
 
@@ -102,6 +109,20 @@ pub data Drains (q : ImpairQueue) : Drained → Type 1 where
       → drain.Learnt κs a r s
       → Drains q r
 
+-- a call of `payload` on a store, with a slot and a length, returned bytes
+pub data Reads (store : List ℕ) (slot len : ℕ) : List ℕ → Type 1 where
+  called : (κs : Lifetimes.Lfts 1) (a : World.ArgsD payload-fn.signature κs) (r : World.ResD payload-fn.signature κs) (s : Clauses.AtExit (Kinds'.endedOf 1 payload-kinds.ps payload-kinds.r) κs)
+      → now (a .0) ≡ store → a .1 .0 ≡ slot → a .1 .1 .0 ≡ len
+      → payload.Learnt κs a r s
+      → Reads store slot len (now r)
+
+-- what an answer of `release` says, with the bytes that `payload` reads in the store that is left
+pub data Says (store : List ℕ) : ReleaseAnswer → Reply → Type 1 where
+  hands-out : {c : Queued} {bytes : List ℕ} → Reads store (c .slot) (c .length) bytes
+      → Says store (answered.Released c) (released (copy (c .«due_ms») (c .seq) (c .«arrival_ms») (c .route) (c .«copy_id») (c .length) bytes))
+  none : Says store answered.NoneDue noneDue
+  refuses : {k : ℕ} → Says store (answered.Refused k) (refused k)
+
 creates-is : {cap : ℕ} {t : Tables} {r : Created} → Creates cap t r → r ≡ createOf slotWidth cap t
 creates-is (Creates.called κs a r s ec et h) = h ∙ (λ i. createOf slotWidth (ec i) (et i))
 
@@ -110,6 +131,14 @@ pushes-is (Pushes.called κs a r s eq et ed ea er ei eb h) = h ∙ (λ i. pushOf
 
 releases-is : {q : ImpairQueue} {t : Tables} {instant : Float} {r : Released} {t′ : Tables} → Releases q t instant r t′ → after r t′ ≡ releaseOf slotWidth q t instant
 releases-is (Releases.called κs a r s eq et ei h) = h ∙ (λ i. releaseOf slotWidth (eq i) (et i) (ei i))
+
+reads-is : {store : List ℕ} {slot len : ℕ} {bytes : List ℕ} → Reads store slot len bytes → bytes ≡ payloadOf slotWidth store slot len
+reads-is (Reads.called κs a r s es et el h) = h ∙ (λ i. payloadOf slotWidth (es i) (et i) (el i))
+
+says-is : {store : List ℕ} {a : ReleaseAnswer} {r : Reply} → Says store a r → r ≡ saidOfRelease slotWidth store a
+says-is (hands-out {c} h) = ap (λ (b : List ℕ). released (copy (c .«due_ms») (c .seq) (c .«arrival_ms») (c .route) (c .«copy_id») (c .length) b)) (reads-is h)
+says-is none = refl
+says-is refuses = refl
 
 drains-is : {q : ImpairQueue} {r : Drained} → Drains q r → r ≡ drainOf q
 drains-is (Drains.called κs a r s eq h) = h ∙ (λ i. drainOf (eq i))
@@ -120,9 +149,9 @@ pub data Ran : ImpairQueue → Tables → List Call → List Reply → Type 1 wh
   pushes : {q : ImpairQueue} {t t′ : Tables} {due arrival : Float} {route id : ℕ} {bytes : List ℕ} {r : Pushed} {cs : List Call} {rs : List Reply}
       → Pushes q t due arrival route id bytes r t′ → Ran (r .queue) t′ cs rs
       → Ran q t (pushCall due arrival route id bytes ∷ cs) (saidOfPush (r .answer) ∷ rs)
-  releases : {q : ImpairQueue} {t t′ : Tables} {instant : Float} {r : Released} {cs : List Call} {rs : List Reply}
-      → Releases q t instant r t′ → Ran (r .queue) t′ cs rs
-      → Ran q t (releaseCall instant ∷ cs) (saidOfRelease slotWidth (t′ .store) (r .answer) ∷ rs)
+  releases : {q : ImpairQueue} {t t′ : Tables} {instant : Float} {r : Released} {reply : Reply} {cs : List Call} {rs : List Reply}
+      → Releases q t instant r t′ → Says (t′ .store) (r .answer) reply → Ran (r .queue) t′ cs rs
+      → Ran q t (releaseCall instant ∷ cs) (reply ∷ rs)
   drains : {q : ImpairQueue} {t : Tables} {r : Drained} {cs : List Call} {rs : List Reply}
       → Drains q r → Ran (r .queue) t cs rs
       → Ran q t (drainCall ∷ cs) (saidOfDrain (r .answer) ∷ rs)
@@ -133,8 +162,8 @@ ran-is done = refl
 ran-is (pushes {r = r} {cs = cs} c k) =
     ap (λ (l : List Reply). saidOfPush (r .answer) ∷ l) (ran-is k)
     ∙ ap (λ (o : After Pushed). saidByPush o .reply ∷ answersTo slotWidth (saidByPush o .queue) (saidByPush o .tables) cs) (pushes-is c)
-ran-is (releases {t′ = t′} {r = r} {cs = cs} c k) =
-    ap (λ (l : List Reply). saidOfRelease slotWidth (t′ .store) (r .answer) ∷ l) (ran-is k)
+ran-is (releases {t′ = t′} {r = r} {cs = cs} c a k) =
+    (λ i. says-is a i ∷ ran-is k i)
     ∙ ap (λ (o : After Released). saidByRelease slotWidth o .reply ∷ answersTo slotWidth (saidByRelease slotWidth o .queue) (saidByRelease slotWidth o .tables) cs) (releases-is c)
 ran-is (drains {t = t} {r = r} {cs = cs} c k) =
     ap (λ (l : List Reply). saidOfDrain (r .answer) ∷ l) (ran-is k)

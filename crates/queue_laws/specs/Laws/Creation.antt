@@ -3,16 +3,16 @@ use mathlib.Core.Path.{_≡_, refl, subst}
 use mathlib.Core.Logic.{_⊎_, inl, inr}
 use mathlib.Core.List.{[]}
 use mathlib.Core.Bool.{Bool, true, false, cond, not, _&&_}
-use Prim.Native.Nat.{ℕ, _-_, _*_, _<_, _≤_, min}
+use Prim.Native.Nat.{ℕ, _-_, _*_, _<_, _≤_}
 use native.Mathlib.Omega.{arith}
 use lib.Dec.{leb}
 use lib.ListN.{length, getD}
 use borrow.Author.Tests.{le-leb, lt-leb, leb-true}
-use Rattle.numbers.specs.Laws.Both.{both, both-true}
+use Rattle.numbers.specs.Laws.Both.{both-true}
 use Rattle.numbers.specs.Limits.{maxCapacity}
 use Rattle.numbers.specs.Refusals.{refusedMemory, refusedCapacity}
 use Rattle.queue.specs.Tables.{Tables}
-use Rattle.queue.specs.Refusals.{memoryOf, hasRoom, shortestOf}
+use Rattle.queue.specs.Refusals.{memoryOf}
 use Rattle.queue.specs.Calls.{fresh, notCreated, createOf}
 use Rattle.queue.specs.declared.queue.ImpairQueue.{ImpairQueue}
 use Rattle.queue.specs.declared.answers.Created.{Created}
@@ -57,34 +57,51 @@ drained-keeps width t q p k =
 
 -- ---- the test of the memory
 
-le-min : (c a b : ℕ) → c ≤ a → c ≤ b → c ≤ min a b
-le-min c a b h k = omega arith
-
-min-le : (c a b : ℕ) → c ≤ min a b → (c ≤ a) × (c ≤ b)
-min-le c a b h = (omega arith, omega arith)
-
 -- the test is true exactly for memory that is long enough
 pub long-memory : (width cap : ℕ) (t : Tables) → Long width cap t → memoryOf width cap t ≡ true
-unfolding hasRoom shortestOf
+unfolding memoryOf
 long-memory width cap t l =
-    both _ _
-    (le-leb _ _ (le-min _ _ _
-    (le-min _ _ _ (le-min _ _ _ (l .win) (l .free)) (le-min _ _ _ (l .dues) (l .seqs)))
-    (le-min _ _ _ (le-min _ _ _ (l .arrivals) (l .routes)) (le-min _ _ _ (l .copyIds) (l .lengths)))))
-    (le-leb _ _ (l .store))
+    rw (le-leb _ _ (l .win), le-leb _ _ (l .free), le-leb _ _ (l .dues), le-leb _ _ (l .seqs), le-leb _ _ (l .arrivals), le-leb _ _ (l .routes), le-leb _ _ (l .copyIds), le-leb _ _ (l .lengths), le-leb _ _ (l .store))
+
+-- nine tests of which each is true
+record AllTrue (a b c d e f g h i : Bool) : Type 0 where
+  one : a ≡ true
+  two : b ≡ true
+  three : c ≡ true
+  four : d ≡ true
+  five : e ≡ true
+  six : f ≡ true
+  seven : g ≡ true
+  eight : h ≡ true
+  nine : i ≡ true
+
+all-true : (a b c d e f g h i : Bool) → (a && b && c && d && e && f && g && h && i) ≡ true → AllTrue a b c d e f g h i
+all-true a b c d e f g h i all =
+    let to-h = both-true (a && b && c && d && e && f && g && h) i all in
+    let to-g = both-true (a && b && c && d && e && f && g) h (to-h .0) in
+    let to-f = both-true (a && b && c && d && e && f) g (to-g .0) in
+    let to-e = both-true (a && b && c && d && e) f (to-f .0) in
+    let to-d = both-true (a && b && c && d) e (to-e .0) in
+    let to-c = both-true (a && b && c) d (to-d .0) in
+    let to-b = both-true (a && b) c (to-c .0) in
+    let to-a = both-true a b (to-b .0) in
+    record { one = to-a .0; two = to-a .1; three = to-b .1; four = to-c .1; five = to-d .1; six = to-e .1; seven = to-f .1; eight = to-g .1; nine = to-h .1 }
 
 pub memory-long : (width cap : ℕ) (t : Tables) → memoryOf width cap t ≡ true → Long width cap t
-unfolding hasRoom shortestOf
+unfolding memoryOf
 memory-long width cap t h =
-    let two = both-true (leb cap (shortestOf (length (t .win)) (length (t .free)) (length (t .dues)) (length (t .seqs)) (length (t .arrivals)) (length (t .routes)) (length (t .copyIds)) (length (t .lengths)))) (leb (cap * width) (length (t .store))) h in
-    let all = min-le cap (min (min (length (t .win)) (length (t .free))) (min (length (t .dues)) (length (t .seqs)))) (min (min (length (t .arrivals)) (length (t .routes))) (min (length (t .copyIds)) (length (t .lengths)))) (leb-true cap _ (two .0)) in
-    let keys = min-le cap (min (length (t .win)) (length (t .free))) (min (length (t .dues)) (length (t .seqs))) (all .0) in
-    let rest = min-le cap (min (length (t .arrivals)) (length (t .routes))) (min (length (t .copyIds)) (length (t .lengths))) (all .1) in
-    let a = min-le cap (length (t .win)) (length (t .free)) (keys .0) in
-    let b = min-le cap (length (t .dues)) (length (t .seqs)) (keys .1) in
-    let c = min-le cap (length (t .arrivals)) (length (t .routes)) (rest .0) in
-    let d = min-le cap (length (t .copyIds)) (length (t .lengths)) (rest .1) in
-    record { win = a .0; free = a .1; dues = b .0; seqs = b .1; arrivals = c .0; routes = c .1; copyIds = d .0; lengths = d .1; store = leb-true (cap * width) (length (t .store)) (two .1) }
+    let all = all-true (leb cap (length (t .win))) (leb cap (length (t .free))) (leb cap (length (t .dues))) (leb cap (length (t .seqs))) (leb cap (length (t .arrivals))) (leb cap (length (t .routes))) (leb cap (length (t .copyIds))) (leb cap (length (t .lengths))) (leb (cap * width) (length (t .store))) h in
+    record {
+      win = leb-true _ _ (all .one);
+      free = leb-true _ _ (all .two);
+      dues = leb-true _ _ (all .three);
+      seqs = leb-true _ _ (all .four);
+      arrivals = leb-true _ _ (all .five);
+      routes = leb-true _ _ (all .six);
+      copyIds = leb-true _ _ (all .seven);
+      lengths = leb-true _ _ (all .eight);
+      store = leb-true _ _ (all .nine);
+    }
 
 short-memory : (width cap : ℕ) (t : Tables) → (Long width cap t → ⊥) → memoryOf width cap t ≡ false
 short-memory width cap t lacks = go (memoryOf width cap t) refl

@@ -1,5 +1,5 @@
 -- Two comparisons; the product of a capacity and the width fits.
-use Rattle.queue.specs.Refusals.{hasRoom}
+use Rattle.queue.specs.Room.{hasRoom}
 use mathlib.Core.Path.{refl}
 use borrow.Author.Needs.{needs}
 use Rattle.queue.proofs.refusal.has_room.Statement.{statement}

@@ -1,5 +1,5 @@
 -- Seven minima by their contracts.
-use Rattle.queue.specs.Refusals.{shortestOf}
+use Rattle.queue.specs.Room.{shortestOf}
 use borrow.Author.Needs.{needs}
 use Rattle.queue.proofs.refusal.shortest.Statement.{statement}
 use Rattle.queue.proofs.refusal.shortest.Tie as tie
