@@ -14,6 +14,17 @@ pub fn full(next_seq: u64) -> ImpairQueue {
     with_held(2, next_seq)
 }
 
+// More copies are said to be held than slots were used.
+pub fn altered(next_seq: u64) -> ImpairQueue {
+    ImpairQueue {
+        cap: 2,
+        held: 2,
+        next_seq,
+        leaves: 2,
+        opened: 1,
+    }
+}
+
 // So many slots are in use, and no other was.
 pub fn with_held(held: u32, next_seq: u64) -> ImpairQueue {
     ImpairQueue {

@@ -59,7 +59,18 @@ fn compared(
     list_seqs: &mut [u64],
     list_seeds: &mut [u64],
 ) -> Tally {
-    let mut queue = new(cap);
+    let mut queue = new(
+        cap,
+        win,
+        free,
+        dues,
+        seqs,
+        arrivals,
+        routes,
+        ids,
+        lengths,
+        store,
+    );
     let mut list = List::new(cap as u64);
     let mut rng = Rng::new(cap as u64);
     let mut tally = Tally::new();
@@ -93,14 +104,32 @@ fn compared(
     tally
 }
 
-fn new(cap: u32) -> ImpairQueue {
-    ImpairQueue {
-        cap,
-        held: 0,
-        next_seq: 0,
-        leaves: 0,
-        opened: 0,
-    }
+// The queue that creation gives; what it answers shows in the calls that follow.
+fn new(
+    cap: u32,
+    win: &[u32],
+    free: &[u32],
+    dues: &[f64],
+    seqs: &[u64],
+    arrivals: &[f64],
+    routes: &[u64],
+    ids: &[u32],
+    lengths: &[u32],
+    store: &[u8],
+) -> ImpairQueue {
+    let created = ImpairQueue::create(
+        cap as usize,
+        win,
+        free,
+        dues,
+        seqs,
+        arrivals,
+        routes,
+        ids,
+        lengths,
+        store,
+    );
+    created.queue
 }
 
 // Whether two answers have the same words; the bytes of a released copy count by their sum.
