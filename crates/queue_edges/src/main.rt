@@ -1,4 +1,5 @@
-// Calls of the queue on memory and states that no earlier call has left; the file stdout has what document 01 says of them.
+// Calls of the queue on memory and states that no earlier call has left; the file stdout has what document 01 says of them, and of calls that
+// are drawn how many had each answer.
 mod altered;
 mod case;
 mod chosen;
