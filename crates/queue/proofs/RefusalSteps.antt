@@ -1,7 +1,7 @@
 -- What the refusals are made of, and what a call that meets none has passed.
 use mathlib.Core.Path.{_≡_, refl, sym, ap, _∙_}
 use mathlib.Core.Bool.{Bool, true, false, not, _&&_, Bool·not-not}
-use Prim.Native.Nat.{ℕ, _<_, _≤_, _^_, min}
+use Prim.Native.Nat.{ℕ, _≤_, min}
 use native.Mathlib.Omega.{arith}
 use lib.Dec.{leb, eqb}
 use lib.Ieee.{Float, isNan, eq, ne}
@@ -11,9 +11,8 @@ use Rattle.numbers.specs.Instant.{isInstantOf}
 use Rattle.numbers.specs.Limits.{maxCapacity, isCounterOf}
 use Rattle.numbers.specs.Laws.Both.{both-true}
 use Rattle.numbers.specs.Laws.Kinds.{nan-differs}
-use Rattle.numbers.specs.Laws.Limits.{counter-below}
 use Rattle.queue.specs.Tables.{Tables}
-use Rattle.queue.specs.Refusals.{refusalOf, memoryOf, inKeeping, pushRefusal, releaseRefusal}
+use Rattle.queue.specs.Refusals.{refusalOf, roomOf, memoryOf, inKeeping, pushRefusal, releaseRefusal}
 use Rattle.queue.specs.Room.{hasRoom, shortestOf}
 use Rattle.queue.specs.declared.queue.ImpairQueue.{ImpairQueue}
 
@@ -44,11 +43,10 @@ pub record Sound (q : ImpairQueue) : Type 0 where
   pub leaves-within : q .leaves ≤ q .cap
   pub opened-within : q .opened ≤ q .leaves
   pub held-within : q .held ≤ q .opened
-  pub seq-below : q .«next_seq» < 2 ^ 60
 
-sound : (q : ImpairQueue) → isCounterOf (q .«next_seq») ≡ true → inKeeping q ≡ true → Sound q
+sound : (q : ImpairQueue) → inKeeping q ≡ true → Sound q
 unfolding inKeeping
-sound q counter keeping =
+sound q keeping =
     let held = both-true _ (leb (q .held) (q .opened)) keeping in
     let opened = both-true _ (leb (q .opened) (q .leaves)) (held .0) in
     let leaves = both-true (leb (q .cap) maxCapacity) (leb (q .leaves) (q .cap)) (opened .0) in
@@ -57,20 +55,25 @@ sound q counter keeping =
       leaves-within = leb-true _ _ (leaves .1);
       opened-within = leb-true _ _ (opened .1);
       held-within = leb-true _ _ (held .1);
-      seq-below = counter-below (q .«next_seq») counter;
     }
 
-pub push-passed : (width : ℕ) (q : ImpairQueue) (memory : Bool) (due arrival : Float) (len : ℕ) → pushRefusal width q memory due arrival len ≡ 0 → Sound q × (len ≤ width)
+-- what a push that meets no refusal has passed
+pub record Passed (counter : Bool) (width : ℕ) (q : ImpairQueue) (len : ℕ) : Type 0 where
+  pub state : Sound q
+  pub seq : counter ≡ true
+  pub fits : len ≤ width
+
+pub push-passed : (counter : Bool) (width : ℕ) (q : ImpairQueue) (memory : Bool) (due arrival : Float) (len : ℕ) → pushRefusal counter width q memory due arrival len ≡ 0 → Passed counter width q len
 unfolding pushRefusal
-push-passed width q memory due arrival len h =
-    let all = all-pass memory (isInstantOf arrival) (leb len width) (not (isNan due)) (isCounterOf (q .«next_seq»)) (inKeeping q) (not (eqb (q .held) (q .cap))) h in
-    (sound q (all .counter-passes) (all .keeping-passes), leb-true len width (all .len-passes))
+push-passed counter width q memory due arrival len h =
+    let all = all-pass memory (isInstantOf arrival) (leb len width) (not (isNan due)) counter (inKeeping q) (not (eqb (q .held) (q .cap))) h in
+    record { state = sound q (all .keeping-passes); seq = all .counter-passes; fits = leb-true len width (all .len-passes) }
 
 pub release-passed : (q : ImpairQueue) (memory : Bool) (now : Float) → releaseRefusal q memory now ≡ 0 → Sound q
 unfolding releaseRefusal
 release-passed q memory now h =
     let all = all-pass memory (isInstantOf now) true true (isCounterOf (q .«next_seq»)) (inKeeping q) true h in
-    sound q (all .counter-passes) (all .keeping-passes)
+    sound q (all .keeping-passes)
 
 -- the shortest of the tables
 abbrev pub shortestIn : Tables → ℕ
@@ -95,9 +98,13 @@ one-by-one true true true true false f g h = refl
 one-by-one true true true true true false g h = refl
 one-by-one true true true true true true g h = refl
 
+pub lengths-are : (width cap a b c d e f g h s : ℕ) → hasRoom width cap (shortestOf a b c d e f g h) s ≡ roomOf width cap a b c d e f g h s
+unfolding hasRoom shortestOf roomOf
+lengths-are width cap a b c d e f g h s = rw (leb-min, leb-min, leb-min, leb-min, leb-min, leb-min, leb-min, one-by-one)
+
 pub room-is : (width cap : ℕ) (t : Tables) → hasRoom width cap (shortestIn t) (length (t .store)) ≡ memoryOf width cap t
-unfolding hasRoom shortestOf memoryOf
-room-is width cap t = rw (leb-min, leb-min, leb-min, leb-min, leb-min, leb-min, leb-min, one-by-one)
+unfolding memoryOf
+room-is width cap t = lengths-are width cap _ _ _ _ _ _ _ _ _
 
 -- whether the memory has room, as the code asks it
 pub memory-is : (width cap shortest : ℕ) (t : Tables) (memory : Bool) → shortest ≡ shortestIn t → memory ≡ hasRoom width cap shortest (length (t .store)) → memory ≡ memoryOf width cap t

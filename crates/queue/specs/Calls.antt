@@ -2,11 +2,11 @@
 -- that it was given and leaves the tables as they were.
 use mathlib.Core.Bool.{Bool, true, cond, not, _&&_}
 use mathlib.Core.List.{List}
-use Prim.Native.Nat.{ℕ, _+_, _-_, max}
+use Prim.Native.Nat.{ℕ, _+_, _-_, _^_, max}
 use lib.Dec.{leb, eqb}
 use lib.Ieee.{Float, le}
 use lib.ListN.{getD, length, set}
-use Rattle.numbers.specs.Limits.{maxCapacity}
+use Rattle.numbers.specs.Limits.{maxCapacity, isCounterOf}
 use Rattle.numbers.specs.Refusals.{refusedMemory, refusedCapacity, refusedKeeping}
 use Rattle.numbers.specs.Whole.{whole}
 use Rattle.tables.specs.Slots.{partOf}
@@ -71,13 +71,21 @@ notPushed q k = record { queue = q; answer = push.Refused k }
 unfoldable pub enteredOf : ImpairQueue → Tree → List ℕ → Rows → ℕ → After Pushed
 enteredOf q g free r slot = after (record { queue = oneMore q (g .leaves); answer = push.Entered slot (q .«next_seq») }) (joined g free r)
 
-unfoldable pub pushOf : ℕ → ImpairQueue → Tables → Float → Float → ℕ → ℕ → List ℕ → After Pushed
-pushOf width q t due arrival route id bytes =
-    cond (eqb (pushRefusal width q (memoryOf width (q .cap) t) due arrival (length bytes)) 0)
+-- a push, given whether 25 lets the next seq through
+unfoldable pub pushIf : Bool → ℕ → ImpairQueue → Tables → Float → Float → ℕ → ℕ → List ℕ → After Pushed
+pushIf counter width q t due arrival route id bytes =
+    cond (eqb (pushRefusal counter width q (memoryOf width (q .cap) t) due arrival (length bytes)) 0)
     (cond (fitsOf (q .cap) (q .leaves) (nextSlot q (t .free)))
     (enteredOf q (enterOf (q .cap) (nextSlot q (t .free)) due (q .«next_seq») (treeOf (q .leaves) t)) (t .free) (writtenOf width (rowsOf t) (nextSlot q (t .free)) arrival route id bytes) (nextSlot q (t .free)))
     (after (notPushed q refusedKeeping) t))
-    (after (notPushed q (pushRefusal width q (memoryOf width (q .cap) t) due arrival (length bytes))) t)
+    (after (notPushed q (pushRefusal counter width q (memoryOf width (q .cap) t) due arrival (length bytes))) t)
+
+unfoldable pub pushOf : ℕ → ImpairQueue → Tables → Float → Float → ℕ → ℕ → List ℕ → After Pushed
+pushOf width q t due arrival route id bytes = pushIf (isCounterOf (q .«next_seq»)) width q t due arrival route id bytes
+
+-- the second copy of a packet: its first one may have left a next seq of 2^60, which 25 lets through
+unfoldable pub pushAgainOf : ℕ → ImpairQueue → Tables → Float → Float → ℕ → ℕ → List ℕ → After Pushed
+pushAgainOf width q t due arrival route id bytes = pushIf (leb (q .«next_seq») (2 ^ 60)) width q t due arrival route id bytes
 
 -- ---- release
 

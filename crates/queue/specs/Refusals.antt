@@ -26,20 +26,23 @@ refusalOf memory instant len due counter keeping space =
     (cond (not space) refusedFull 0))))))
 
 -- "The lent store has at least capacity × 2,048 bytes, and every other lent table at least capacity entries"
+unfoldable pub roomOf : ℕ → ℕ → ℕ → ℕ → ℕ → ℕ → ℕ → ℕ → ℕ → ℕ → ℕ → Bool
+roomOf width cap win free dues seqs arrivals routes ids lengths store =
+    leb cap win && leb cap free && leb cap dues && leb cap seqs && leb cap arrivals && leb cap routes && leb cap ids && leb cap lengths && leb (cap * width) store
+
 unfoldable pub memoryOf : ℕ → ℕ → Tables → Bool
 memoryOf width cap t =
-    leb cap (length (t .win)) && leb cap (length (t .free)) && leb cap (length (t .dues)) && leb cap (length (t .seqs))
-    && leb cap (length (t .arrivals)) && leb cap (length (t .routes)) && leb cap (length (t .copyIds)) && leb cap (length (t .lengths))
-    && leb (cap * width) (length (t .store))
+    roomOf width cap (length (t .win)) (length (t .free)) (length (t .dues)) (length (t .seqs)) (length (t .arrivals)) (length (t .routes)) (length (t .copyIds))
+    (length (t .lengths)) (length (t .store))
 
 -- held ≤ opened ≤ leaves ≤ capacity ≤ 1,048,576
 unfoldable pub inKeeping : ImpairQueue → Bool
 inKeeping q = leb (q .cap) maxCapacity && leb (q .leaves) (q .cap) && leb (q .opened) (q .leaves) && leb (q .held) (q .opened)
 
--- 23, 21 (the arrival), 22, 27, 25, 26, 28
-unfoldable pub pushRefusal : ℕ → ImpairQueue → Bool → Float → Float → ℕ → ℕ
-pushRefusal width q memory due arrival len =
-    refusalOf memory (isInstantOf arrival) (leb len width) (not (isNan due)) (isCounterOf (q .«next_seq»)) (inKeeping q) (not (eqb (q .held) (q .cap)))
+-- 23, 21 (the arrival), 22, 27, 25, 26, 28, given whether 25 lets the next seq through
+unfoldable pub pushRefusal : Bool → ℕ → ImpairQueue → Bool → Float → Float → ℕ → ℕ
+pushRefusal counter width q memory due arrival len =
+    refusalOf memory (isInstantOf arrival) (leb len width) (not (isNan due)) counter (inKeeping q) (not (eqb (q .held) (q .cap)))
 
 -- 23, 21, 25, 26
 unfoldable pub releaseRefusal : ImpairQueue → Bool → Float → ℕ

@@ -1,9 +1,10 @@
 // How a copy enters.
+ghost use mathlib.Core.Bool.{true};
 ghost use mathlib.Core.Path.{_≡_};
 ghost use Prim.Native.Nat.{_+_, _<_, _≤_, _^_};
 ghost use Rattle.queue.specs.Tables.{tables, after};
 ghost use Rattle.queue.specs.Refusals.{slotWidth, pushRefusal};
-ghost use Rattle.queue.specs.Calls.{nextSlot, oneMore, notPushed, pushOf};
+ghost use Rattle.queue.specs.Calls.{nextSlot, oneMore, notPushed, pushIf, pushOf};
 use crate::answers::PushAnswer;
 use crate::answers::Pushed;
 use crate::queue::ImpairQueue;
@@ -23,16 +24,16 @@ fn not_pushed(queue: ImpairQueue, number: u32) -> Pushed
 }
 
 impl ImpairQueue {
-    // The refusal that meets a push of so many bytes, or 0, given whether the lent memory has room.
-    fn push_refusal(self, memory: bool, due: f64, arrival: f64, length: usize) -> u32
-        ensures { λ r. ⌜ r ≡ pushRefusal slotWidth self memory due arrival length ⌝ }
+    // The refusal that meets a push of so many bytes, or 0, given whether 25 lets the next seq through and whether the lent memory has room.
+    fn push_refusal(self, counter: bool, memory: bool, due: f64, arrival: f64, length: usize) -> u32
+        ensures { λ r. ⌜ r ≡ pushRefusal counter slotWidth self memory due arrival length ⌝ }
     {
         refusal::refusal(
             memory,
             numbers::is_instant(arrival),
             length <= SLOT_WIDTH as usize,
             due == due,
-            numbers::is_counter(self.next_seq),
+            counter,
             self.in_keeping(),
             self.held != self.cap,
         )
@@ -69,9 +70,10 @@ impl ImpairQueue {
         }
     }
 
-    // A copy enters with the next seq, or a refusal by 23, 21, 22, 27, 25, 26 or 28.
-    pub fn push(
+    // A copy enters with the next seq, or a refusal by 23, 21, 22, 27, 25, 26 or 28, given whether 25 lets the next seq through.
+    pub(crate) fn push_if(
         self,
+        counter: bool,
         win: &mut [u32],
         free: &[u32],
         dues: &mut [f64],
@@ -87,7 +89,8 @@ impl ImpairQueue {
         copy_id: u32,
         bytes: &[u8],
     ) -> Pushed
-        ensures { λ r. ⌜ after r (tables (now (win .exit)) (now (free .entry)) (now (dues .exit)) (now (seqs .exit)) (now (arrivals .exit)) (now (routes .exit)) (now («copy_ids» .exit)) (now (lengths .exit)) (now (store .exit))) ≡ pushOf slotWidth self (tables (now (win .entry)) (now (free .entry)) (now (dues .entry)) (now (seqs .entry)) (now (arrivals .entry)) (now (routes .entry)) (now («copy_ids» .entry)) (now (lengths .entry)) (now (store .entry))) due arrival route «copy_id» (now (bytes .entry)) ⌝ }
+        requires { ⌜ (counter ≡ true → self .«next_seq» + 1 < 2 ^ 64) ⌝ }
+        ensures { λ r. ⌜ after r (tables (now (win .exit)) (now (free .entry)) (now (dues .exit)) (now (seqs .exit)) (now (arrivals .exit)) (now (routes .exit)) (now («copy_ids» .exit)) (now (lengths .exit)) (now (store .exit))) ≡ pushIf counter slotWidth self (tables (now (win .entry)) (now (free .entry)) (now (dues .entry)) (now (seqs .entry)) (now (arrivals .entry)) (now (routes .entry)) (now («copy_ids» .entry)) (now (lengths .entry)) (now (store .entry))) due arrival route «copy_id» (now (bytes .entry)) ⌝ }
     {
         let shortest = refusal::shortest(
             win.len(),
@@ -100,7 +103,7 @@ impl ImpairQueue {
             lengths.len(),
         );
         let memory = refusal::has_room(self.cap, shortest, store.len());
-        let number = self.push_refusal(memory, due, arrival, bytes.len());
+        let number = self.push_refusal(counter, memory, due, arrival, bytes.len());
         if number != 0 {
             return not_pushed(self, number);
         }
@@ -126,5 +129,45 @@ impl ImpairQueue {
             queue: self.one_more(leaves),
             answer: PushAnswer::Entered { slot, seq },
         }
+    }
+
+    // A copy enters with the next seq, or a refusal by 23, 21, 22, 27, 25, 26 or 28.
+    pub fn push(
+        self,
+        win: &mut [u32],
+        free: &[u32],
+        dues: &mut [f64],
+        seqs: &mut [u64],
+        arrivals: &mut [f64],
+        routes: &mut [u64],
+        copy_ids: &mut [u32],
+        lengths: &mut [u32],
+        store: &mut [u8],
+        due: f64,
+        arrival: f64,
+        route: u64,
+        copy_id: u32,
+        bytes: &[u8],
+    ) -> Pushed
+        ensures { λ r. ⌜ after r (tables (now (win .exit)) (now (free .entry)) (now (dues .exit)) (now (seqs .exit)) (now (arrivals .exit)) (now (routes .exit)) (now («copy_ids» .exit)) (now (lengths .exit)) (now (store .exit))) ≡ pushOf slotWidth self (tables (now (win .entry)) (now (free .entry)) (now (dues .entry)) (now (seqs .entry)) (now (arrivals .entry)) (now (routes .entry)) (now («copy_ids» .entry)) (now (lengths .entry)) (now (store .entry))) due arrival route «copy_id» (now (bytes .entry)) ⌝ }
+    {
+        let counter = numbers::is_counter(self.next_seq);
+        self.push_if(
+            counter,
+            win,
+            free,
+            dues,
+            seqs,
+            arrivals,
+            routes,
+            copy_ids,
+            lengths,
+            store,
+            due,
+            arrival,
+            route,
+            copy_id,
+            bytes,
+        )
     }
 }

@@ -1,7 +1,7 @@
 // Which refusal meets a call.
 ghost use mathlib.Core.Path.{_≡_};
 ghost use Prim.Native.Nat.{min};
-ghost use Rattle.queue.specs.Refusals.{refusalOf, slotWidth, inKeeping, stateRefusal};
+ghost use Rattle.queue.specs.Refusals.{refusalOf, slotWidth, roomOf, inKeeping, stateRefusal};
 ghost use Rattle.queue.specs.Room.{hasRoom, shortestOf};
 use crate::queue::ImpairQueue;
 use crate::store::SLOT_WIDTH;
@@ -84,6 +84,25 @@ pub(crate) fn has_room(cap: u32, shortest: usize, store: usize) -> bool
 }
 
 impl ImpairQueue {
+    // Whether lent tables and a store of these lengths have room for the capacity, as refusal 23 asks.
+    pub fn has_memory(
+        self,
+        win: usize,
+        free: usize,
+        dues: usize,
+        seqs: usize,
+        arrivals: usize,
+        routes: usize,
+        copy_ids: usize,
+        lengths: usize,
+        store: usize,
+    ) -> bool
+        ensures { λ r. ⌜ r ≡ roomOf slotWidth (self .cap) win free dues seqs arrivals routes «copy_ids» lengths store ⌝ }
+    {
+        let shortest = shortest(win, free, dues, seqs, arrivals, routes, copy_ids, lengths);
+        has_room(self.cap, shortest, store)
+    }
+
     // Whether held ≤ opened ≤ leaves ≤ capacity ≤ 1,048,576.
     pub(crate) fn in_keeping(self) -> bool
         ensures { λ r. ⌜ r ≡ inKeeping self ⌝ }

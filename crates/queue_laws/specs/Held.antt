@@ -1,8 +1,8 @@
 -- The plain queue: a list of the copies that are held, in the order in which they entered, beside the capacity and the next seq. It knows no slots, no
 -- tables and no tree. Laws shows that the calls of crates/queue answer as it does.
-use mathlib.Core.Bool.{cond, not}
+use mathlib.Core.Bool.{Bool, cond, not}
 use mathlib.Core.List.{List, [], _∷_, _++_}
-use Prim.Native.Nat.{ℕ, _+_}
+use Prim.Native.Nat.{ℕ, _+_, _^_}
 use lib.Dec.{leb, eqb}
 use lib.Ieee.{Float, le, isNan}
 use lib.ListN.{length}
@@ -65,15 +65,22 @@ pub record Step : Type 0 where
 abbrev pub stepTo : Reply → Plain → Step
 stepTo r p = record { reply = r; then = p }
 
--- 21 (the arrival), 22, 27, 25, 28; else the copy enters at the end with the next seq
-unfoldable pub pushPlain : ℕ → Plain → Float → Float → ℕ → ℕ → List ℕ → Step
-pushPlain width p due arrival route id bytes =
+-- 21 (the arrival), 22, 27, 25, 28, given whether 25 lets the next seq through; else the copy enters at the end with the next seq
+unfoldable pub pushPlainIf : Bool → ℕ → Plain → Float → Float → ℕ → ℕ → List ℕ → Step
+pushPlainIf counter width p due arrival route id bytes =
     cond (not (isInstantOf arrival)) (stepTo (refused refusedInstant) p)
     (cond (not (leb (length bytes) width)) (stepTo (refused refusedLength) p)
     (cond (isNan due) (stepTo (refused refusedDue) p)
-    (cond (not (isCounterOf (p .nextSeq))) (stepTo (refused refusedCounter) p)
+    (cond (not counter) (stepTo (refused refusedCounter) p)
     (cond (eqb (length (p .held)) (p .cap)) (stepTo (refused refusedFull) p)
     (stepTo (entered (p .nextSeq)) (plain (p .cap) (p .held ++ (copy due (p .nextSeq) arrival route id (length bytes) bytes ∷ [])) (p .nextSeq + 1)))))))
+
+unfoldable pub pushPlain : ℕ → Plain → Float → Float → ℕ → ℕ → List ℕ → Step
+pushPlain width p due arrival route id bytes = pushPlainIf (isCounterOf (p .nextSeq)) width p due arrival route id bytes
+
+-- the second copy of a packet: 25 where the next seq is above 2^60
+unfoldable pub pushAgainPlain : ℕ → Plain → Float → Float → ℕ → ℕ → List ℕ → Step
+pushAgainPlain width p due arrival route id bytes = pushPlainIf (leb (p .nextSeq) (2 ^ 60)) width p due arrival route id bytes
 
 -- the copy leaves if its due has come
 unfoldable pub leaveIfDue : Plain → Float → Copy → Step

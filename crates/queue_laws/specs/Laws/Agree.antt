@@ -3,7 +3,7 @@
 use mathlib.Core.Path.{_≡_, refl, sym, ap, _∙_, subst}
 use mathlib.Core.List.{List, [], _∷_}
 use mathlib.Core.Bool.{Bool, true, false, cond, not}
-use Prim.Native.Nat.{ℕ, _^_, _<_, _≤_}
+use Prim.Native.Nat.{ℕ, _+_, _^_, _<_, _≤_}
 use native.Mathlib.Omega.{arith}
 use lib.Dec.{leb, eqb}
 use lib.Ieee.{Float, le, isNan}
@@ -18,12 +18,12 @@ use Rattle.numbers.specs.Whole.{whole}
 use Rattle.tournament.specs.Calls.{fitsOf, enterOf, leastOf}
 use Rattle.queue.specs.Tables.{Tables, After, after, treeOf, rowsOf, writtenOf}
 use Rattle.queue.specs.Refusals.{memoryOf, inKeeping, refusalOf, pushRefusal, releaseRefusal, stateRefusal, dueRefusal}
-use Rattle.queue.specs.Calls.{nextSlot, notPushed, enteredOf, pushOf, notReleased, leftOf, dueOf, releaseOf, drainOf, dueAt, nextDueOf, lenOf, isEmptyOf}
+use Rattle.queue.specs.Calls.{nextSlot, notPushed, enteredOf, pushIf, pushOf, pushAgainOf, notReleased, leftOf, dueOf, releaseOf, drainOf, dueAt, nextDueOf, lenOf, isEmptyOf}
 use Rattle.queue.specs.declared.queue.ImpairQueue.{ImpairQueue}
 use Rattle.queue.specs.declared.answers.Released.{Released}
 use Rattle.queue.specs.declared.answers.DueAnswer.the-variants as due
 use Rattle.queue.specs.declared.answers.ReleaseAnswer.the-variants as release
-use Rattle.queue_laws.specs.Held.{Copy, Plain, Step, stepTo, entered, noneDue, drained, refused, pushPlain, releasePlain, releaseLeast, leaveIfDue, drainPlain, leastDue, nextDuePlain}
+use Rattle.queue_laws.specs.Held.{Copy, Plain, Step, stepTo, entered, noneDue, drained, refused, pushPlainIf, pushPlain, pushAgainPlain, releasePlain, releaseLeast, leaveIfDue, drainPlain, leastDue, nextDuePlain}
 use Rattle.queue_laws.specs.Replies.{Said, said, saidByPush, saidByRelease, saidByDrain}
 use Rattle.queue_laws.specs.Laws.Rows.{seqLimit}
 use Rattle.queue_laws.specs.Laws.Keeps.{Keeps, rowOf}
@@ -52,10 +52,10 @@ module _ (width : ℕ) (t : Tables) (q : ImpairQueue) (p : Plain) (k : Keeps wid
   same-counter : isCounterOf (q .«next_seq») ≡ isCounterOf (p .nextSeq)
   same-counter = rw (k .same-next)
 
-  push-tests : (due arrival : Float) (len : ℕ) → pushRefusal width q (memoryOf width (q .cap) t) due arrival len
-      ≡ refusalOf true (isInstantOf arrival) (leb len width) (not (isNan due)) (isCounterOf (p .nextSeq)) true (not (eqb (length (p .held)) (p .cap)))
+  push-tests : (counter : Bool) (due arrival : Float) (len : ℕ) → pushRefusal counter width q (memoryOf width (q .cap) t) due arrival len
+      ≡ refusalOf true (isInstantOf arrival) (leb len width) (not (isNan due)) counter true (not (eqb (length (p .held)) (p .cap)))
   unfolding pushRefusal
-  push-tests due arrival len = rw (memory-holds, keeping-holds, same-counter, same-full)
+  push-tests counter due arrival len = rw (memory-holds, keeping-holds, same-full)
 
   release-tests : (now : Float) → releaseRefusal q (memoryOf width (q .cap) t) now ≡ refusalOf true (isInstantOf now) true true (isCounterOf (p .nextSeq)) true true
   unfolding releaseRefusal
@@ -69,38 +69,53 @@ module _ (width : ℕ) (t : Tables) (q : ImpairQueue) (p : Plain) (k : Keeps wid
   refuses : (n : ℕ) → Agree width (said (refused n) q t) (stepTo (refused n) p)
   refuses n = record { says = refl; keeps = k }
 
-  next-below : isCounterOf (p .nextSeq) ≡ true → q .«next_seq» < seqLimit
-  next-below h = omega (arith, counter-below (p .nextSeq) h, k .same-next)
-
   -- ---- push
 
-  module _ (due arrival : Float) (route id : ℕ) (bytes : List ℕ) where
-    push-refused : (n : ℕ) → (n ≡ 0 → ⊥) → pushRefusal width q (memoryOf width (q .cap) t) due arrival (length bytes) ≡ n → pushOf width q t due arrival route id bytes ≡ after (notPushed q n) t
-    unfolding pushOf
+  module _ (counter : Bool) (below : counter ≡ true → q .«next_seq» < seqLimit) (due arrival : Float) (route id : ℕ) (bytes : List ℕ) where
+    push-refused : (n : ℕ) → (n ≡ 0 → ⊥) → pushRefusal counter width q (memoryOf width (q .cap) t) due arrival (length bytes) ≡ n → pushIf counter width q t due arrival route id bytes ≡ after (notPushed q n) t
+    unfolding pushIf
     push-refused n some e = rw (e, ne-eqb n 0 some)
 
-    push-enters : pushRefusal width q (memoryOf width (q .cap) t) due arrival (length bytes) ≡ 0 → fitsOf (q .cap) (q .leaves) (nextSlot q (t .free)) ≡ true
-        → pushOf width q t due arrival route id bytes
+    push-enters : pushRefusal counter width q (memoryOf width (q .cap) t) due arrival (length bytes) ≡ 0 → fitsOf (q .cap) (q .leaves) (nextSlot q (t .free)) ≡ true
+        → pushIf counter width q t due arrival route id bytes
         ≡ enteredOf q (enterOf (q .cap) (nextSlot q (t .free)) due (q .«next_seq») (treeOf (q .leaves) t)) (t .free) (writtenOf width (rowsOf t) (nextSlot q (t .free)) arrival route id bytes) (nextSlot q (t .free))
-    unfolding pushOf
+    unfolding pushIf
     push-enters e f = rw (e, f)
 
-    -- a push, on any arguments
-    pub push-agrees : Agree width (saidByPush (pushOf width q t due arrival route id bytes)) (pushPlain width p due arrival route id bytes)
-    unfolding pushPlain refusalOf enteredOf
-    push-agrees = go (isInstantOf arrival) refl (leb (length bytes) width) refl (isNan due) refl (isCounterOf (p .nextSeq)) refl (eqb (length (p .held)) (p .cap)) refl
+    push-if-agrees : Agree width (saidByPush (pushIf counter width q t due arrival route id bytes)) (pushPlainIf counter width p due arrival route id bytes)
+    unfolding pushPlainIf refusalOf enteredOf
+    push-if-agrees = go (isInstantOf arrival) refl (leb (length bytes) width) refl (isNan due) refl counter refl (eqb (length (p .held)) (p .cap)) refl
       where
-        go : (a : Bool) → isInstantOf arrival ≡ a → (b : Bool) → leb (length bytes) width ≡ b → (c : Bool) → isNan due ≡ c → (d : Bool) → isCounterOf (p .nextSeq) ≡ d → (e : Bool) → eqb (length (p .held)) (p .cap) ≡ e
-            → Agree width (saidByPush (pushOf width q t due arrival route id bytes)) (pushPlain width p due arrival route id bytes)
-        go false ea b eb c ec d ed e ee = rw (push-refused refusedInstant (λ z. omega arith) (push-tests due arrival (length bytes) ∙ (rw ea)), ea) (refuses refusedInstant)
-        go true ea false eb c ec d ed e ee = rw (push-refused refusedLength (λ z. omega arith) (push-tests due arrival (length bytes) ∙ (rw (ea, eb))), ea, eb) (refuses refusedLength)
-        go true ea true eb true ec d ed e ee = rw (push-refused refusedDue (λ z. omega arith) (push-tests due arrival (length bytes) ∙ (rw (ea, eb, ec))), ea, eb, ec) (refuses refusedDue)
-        go true ea true eb false ec false ed e ee = rw (push-refused refusedCounter (λ z. omega arith) (push-tests due arrival (length bytes) ∙ (rw (ea, eb, ec, ed))), ea, eb, ec, ed) (refuses refusedCounter)
-        go true ea true eb false ec true ed true ee = rw (push-refused refusedFull (λ z. omega arith) (push-tests due arrival (length bytes) ∙ (rw (ea, eb, ec, ed, ee))), ea, eb, ec, ed, ee) (refuses refusedFull)
+        go : (a : Bool) → isInstantOf arrival ≡ a → (b : Bool) → leb (length bytes) width ≡ b → (c : Bool) → isNan due ≡ c → (d : Bool) → counter ≡ d → (e : Bool) → eqb (length (p .held)) (p .cap) ≡ e
+            → Agree width (saidByPush (pushIf counter width q t due arrival route id bytes)) (pushPlainIf counter width p due arrival route id bytes)
+        go false ea b eb c ec d ed e ee = rw (push-refused refusedInstant (λ z. omega arith) (push-tests counter due arrival (length bytes) ∙ (rw ea)), ea) (refuses refusedInstant)
+        go true ea false eb c ec d ed e ee = rw (push-refused refusedLength (λ z. omega arith) (push-tests counter due arrival (length bytes) ∙ (rw (ea, eb))), ea, eb) (refuses refusedLength)
+        go true ea true eb true ec d ed e ee = rw (push-refused refusedDue (λ z. omega arith) (push-tests counter due arrival (length bytes) ∙ (rw (ea, eb, ec))), ea, eb, ec) (refuses refusedDue)
+        go true ea true eb false ec false ed e ee = rw (push-refused refusedCounter (λ z. omega arith) (push-tests counter due arrival (length bytes) ∙ (rw (ea, eb, ec, ed))), ea, eb, ec, ed) (refuses refusedCounter)
+        go true ea true eb false ec true ed true ee = rw (push-refused refusedFull (λ z. omega arith) (push-tests counter due arrival (length bytes) ∙ (rw (ea, eb, ec, ed, ee))), ea, eb, ec, ed, ee) (refuses refusedFull)
         go true ea true eb false ec true ed false ee =
             let room : q .held < q .cap = omega (arith, k .held-in, k .opened-in, k .leaves-in, k .count, k .same-cap, eqb-false (length (p .held)) (p .cap) ee) in
-            rw (push-enters (push-tests due arrival (length bytes) ∙ (rw (ea, eb, ec, ed, ee))) (next-fits width t q p k room), ea, eb, ec, ed, ee)
-            (record { says = ap entered (k .same-next); keeps = enter-keeps width t q p k room due arrival route id bytes ec (leb-true _ _ eb) (next-below ed) })
+            rw (push-enters (push-tests counter due arrival (length bytes) ∙ (rw (ea, eb, ec, ed, ee))) (next-fits width t q p k room), ea, eb, ec, ed, ee)
+            (record { says = ap entered (k .same-next); keeps = enter-keeps width t q p k room due arrival route id bytes ec (leb-true _ _ eb) (below ed) })
+
+  module _ (due arrival : Float) (route id : ℕ) (bytes : List ℕ) where
+    -- a push, on any arguments
+    pub push-agrees : Agree width (saidByPush (pushOf width q t due arrival route id bytes)) (pushPlain width p due arrival route id bytes)
+    unfolding pushOf pushPlain
+    push-agrees = rw same-counter (push-if-agrees (isCounterOf (p .nextSeq)) below due arrival route id bytes)
+      where
+        below : isCounterOf (p .nextSeq) ≡ true → q .«next_seq» < seqLimit
+        below h = omega (arith, counter-below (p .nextSeq) h, k .same-next)
+
+    -- the second copy of a packet, on any arguments
+    pub push-again-agrees : Agree width (saidByPush (pushAgainOf width q t due arrival route id bytes)) (pushAgainPlain width p due arrival route id bytes)
+    unfolding pushAgainOf pushAgainPlain
+    push-again-agrees =
+        subst (λ (seq : ℕ). Agree width (saidByPush (pushIf (leb seq (2 ^ 60)) width q t due arrival route id bytes)) (pushAgainPlain width p due arrival route id bytes)) (sym (k .same-next))
+        (push-if-agrees (leb (p .nextSeq) (2 ^ 60)) below due arrival route id bytes)
+      where
+        below : leb (p .nextSeq) (2 ^ 60) ≡ true → q .«next_seq» < seqLimit
+        below h = omega (arith, leb-true (p .nextSeq) (2 ^ 60) h, k .same-next)
 
   -- ---- release
 
@@ -187,12 +202,12 @@ module _ (width : ℕ) (t : Tables) (q : ImpairQueue) (p : Plain) (k : Keeps wid
   pub empty-agrees : isEmptyOf q ≡ eqb (length (p .held)) 0
   empty-agrees = ap (λ (n : ℕ). eqb n 0) (k .count)
 
-  -- no more copies are held than the capacity, which is at most 1,048,576, and the next seq is at most 2 ^ 60
+  -- no more copies are held than the capacity, which is at most 1,048,576, and the next seq is at most 2 ^ 60 + 1
   pub held-within : length (p .held) ≤ p .cap
   held-within = omega (arith, k .count, k .held-in, k .opened-in, k .leaves-in, k .same-cap)
 
   pub cap-within : p .cap ≤ maxCapacity
   cap-within = omega (arith, k .small, k .same-cap)
 
-  pub next-within : p .nextSeq ≤ 2 ^ 60
+  pub next-within : p .nextSeq ≤ 2 ^ 60 + 1
   next-within = omega (arith, k .next-in, k .same-next)

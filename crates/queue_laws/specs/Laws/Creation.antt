@@ -12,7 +12,7 @@ use Rattle.numbers.specs.Laws.Both.{both-true}
 use Rattle.numbers.specs.Limits.{maxCapacity}
 use Rattle.numbers.specs.Refusals.{refusedMemory, refusedCapacity}
 use Rattle.queue.specs.Tables.{Tables}
-use Rattle.queue.specs.Refusals.{memoryOf}
+use Rattle.queue.specs.Refusals.{roomOf, memoryOf}
 use Rattle.queue.specs.Calls.{fresh, notCreated, createOf}
 use Rattle.queue.specs.declared.queue.ImpairQueue.{ImpairQueue}
 use Rattle.queue.specs.declared.answers.Created.{Created}
@@ -59,7 +59,7 @@ drained-keeps width t q p k =
 
 -- the test is true exactly for memory that is long enough
 pub long-memory : (width cap : ℕ) (t : Tables) → Long width cap t → memoryOf width cap t ≡ true
-unfolding memoryOf
+unfolding memoryOf roomOf
 long-memory width cap t l =
     rw (le-leb _ _ (l .win), le-leb _ _ (l .free), le-leb _ _ (l .dues), le-leb _ _ (l .seqs), le-leb _ _ (l .arrivals), le-leb _ _ (l .routes), le-leb _ _ (l .copyIds), le-leb _ _ (l .lengths), le-leb _ _ (l .store))
 
@@ -88,7 +88,7 @@ all-true a b c d e f g h i all =
     record { one = to-a .0; two = to-a .1; three = to-b .1; four = to-c .1; five = to-d .1; six = to-e .1; seven = to-f .1; eight = to-g .1; nine = to-h .1 }
 
 pub memory-long : (width cap : ℕ) (t : Tables) → memoryOf width cap t ≡ true → Long width cap t
-unfolding memoryOf
+unfolding memoryOf roomOf
 memory-long width cap t h =
     let all = all-true (leb cap (length (t .win))) (leb cap (length (t .free))) (leb cap (length (t .dues))) (leb cap (length (t .seqs))) (leb cap (length (t .arrivals))) (leb cap (length (t .routes))) (leb cap (length (t .copyIds))) (leb cap (length (t .lengths))) (leb (cap * width) (length (t .store))) h in
     record {

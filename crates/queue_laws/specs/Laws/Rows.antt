@@ -146,9 +146,9 @@ least-le c (y ∷ l) h x m = go (least-le (better y c) l (num-better y c l h)) m
 
 -- ---- the rows in use
 
--- 2 ^ 60: the seq of every copy that is held is below it, and that of a free slot is not
+-- 2 ^ 60 + 1: the seq of every copy that is held is below it, and that of a free slot is not
 abbrev pub seqLimit : ℕ
-seqLimit = 1152921504606846976
+seqLimit = 1152921504606846977
 
 -- the rows below n that are in use
 unfoldable pub view : (ℕ → Copy) → ℕ → List Copy
