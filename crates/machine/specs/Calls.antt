@@ -1,0 +1,31 @@
+-- The calls of a host, and what the machine answers.
+use mathlib.Core.Bool.{Bool}
+use mathlib.Core.List.{List}
+use Prim.Native.Nat.{ℕ}
+use lib.Ieee.{Float}
+use Rattle.accounts.specs.declared.stats.DirectionStats.{DirectionStats}
+use Rattle.steps.specs.declared.decision.Decision.{Decision}
+use Rattle.queue_laws.specs.Held.{Copy}
+
+-- an arrival has an instant, bytes and a route; a release and a rebind have an instant
+pub data Call : Type 0 where
+  arrive : Float → List ℕ → ℕ → Call
+  release : Float → Call
+  rebind : Float → Call
+  teardown : Call
+  report : Call
+
+pub data Answer : Type 0 where
+  -- "the decision and the numbers of copies entered, overflowed and torn by this call"
+  decided : Decision → ℕ → ℕ → ℕ → Answer
+  -- the copy that left, with its bytes
+  released : Copy → Answer
+  noneDue : Answer
+  -- whether the address is to change
+  rebound : Bool → Answer
+  -- how many copies went to torn
+  toreDown : ℕ → Answer
+  -- the statistics with the accounts merged, the copies held and those torn
+  reported : DirectionStats → ℕ → ℕ → Answer
+  -- the number of the refusal
+  refused : ℕ → Answer

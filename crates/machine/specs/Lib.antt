@@ -1,0 +1,12 @@
+-- Read first Machine (the state), Calls (calls and answers), Steps (what each call does), Tally (what demand 3 counts from the answers), Arrivals (which arrive
+-- call a released copy came with) and Bare (calls and answers without bytes and routes). Lines gathers document 01's starred lines. Laws holds what is proved of
+-- the machine's steps, Theorems says it of every list of calls.
+pub mod Machine
+pub mod Calls
+pub mod Steps
+pub mod Tally
+pub mod Arrivals
+pub mod Bare
+pub mod Lines
+pub mod Laws
+pub mod Theorems

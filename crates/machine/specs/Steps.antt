@@ -1,0 +1,157 @@
+-- What each call does, in document 01's order. "The machine refuses by 21, 22 and 25 only, judged on the arguments and its own state; a refused call answers
+-- the number and changes nothing."
+use mathlib.Core.Bool.{Bool, true, false, cond, not}
+use mathlib.Core.List.{List, [], _∷_, _++_}
+use Prim.Native.Nat.{ℕ, _+_}
+use lib.Dec.{ltb}
+use lib.Ieee.{Float, binary64, sub, le}
+use lib.ListN.{length}
+use Rattle.numbers.specs.Instant.{isInstantOf}
+use Rattle.numbers.specs.Limits.{isLengthOf}
+use Rattle.numbers.specs.Refusals.{refusedInstant, refusedLength, refusedCounter}
+use Rattle.accounts.specs.Accountant.{sentOf, mergedOf}
+use Rattle.accounts.specs.declared.accountant.SendAccountant.{SendAccountant}
+use Rattle.steps.specs.declared.decision.Decision.{Decision}
+use Rattle.steps.specs.declared.decision.Decision.the-variants.{DropRandom, DropGe, DropMtu, DropBlackout, DropKillHold, Enqueue, KillRst}
+use Rattle.engine.specs.Changes.{overflowedOf, reboundOf}
+use Rattle.engine.specs.Decide.{decideUncheckedOf}
+use Rattle.engine.specs.declared.engine.ArrivalEngine.{ArrivalEngine}
+use Rattle.queue_laws.specs.Held.{Copy, copy, least, without}
+use Rattle.machine.specs.Machine.{Machine, machine, inRange}
+use Rattle.machine.specs.Calls.{Call, arrive, release, rebind, teardown, report, Answer, decided, released, noneDue, rebound, toreDown, reported, refused}
+
+pub record Step : Type 0 where
+  pub answer : Answer
+  pub then : Machine
+
+abbrev pub stepTo : Answer → Machine → Step
+stepTo a m = record { answer = a; then = m }
+
+-- ---- refusals: 21, 22, 25, those that apply
+
+-- the number of the first test that fails, or else the step
+unfoldable pub unless : Machine → Bool → Bool → Step → Step
+unless m instant length s =
+    cond (not instant) (stepTo (refused refusedInstant) m)
+    (cond (not length) (stepTo (refused refusedLength) m)
+    (cond (not (inRange (m .engine) (m .accounts) (m .torn) (m .nextSeq))) (stepTo (refused refusedCounter) m)
+    s))
+
+-- ---- arrive(now, bytes, route)
+
+abbrev pub withEngine : Machine → ArrivalEngine → Machine
+withEngine m e = machine e (m .cap) (m .held) (m .nextSeq) (m .accounts) (m .torn)
+
+-- the machine on the way, with the numbers of copies that have entered and overflowed
+pub record Entry : Type 0 where
+  pub then : Machine
+  pub entered : ℕ
+  pub overflowed : ℕ
+
+abbrev pub entry : Machine → ℕ → ℕ → Entry
+entry m i o = record { then = m; entered = i; overflowed = o }
+
+-- the copy is the last of the held list and has the next seq
+abbrev pub withCopy : Machine → Float → Float → ℕ → ℕ → List ℕ → Machine
+withCopy m due now route id bytes =
+    machine (m .engine) (m .cap) (m .held ++ (copy due (m .nextSeq) now route id (length bytes) bytes ∷ [])) (m .nextSeq + 1) (m .accounts) (m .torn)
+
+-- "each enters with the next seq, or the engine's overflow + 1"
+unfoldable pub enterCopy : Float → Float → ℕ → List ℕ → ℕ → Entry → Entry
+enterCopy due now route bytes id e =
+    cond (ltb (length (e .then .held)) (e .then .cap)) (entry (withCopy (e .then) due now route id bytes) (e .entered + 1) (e .overflowed))
+    (entry (withEngine (e .then) (overflowedOf (e .then .engine))) (e .entered) (e .overflowed + 1))
+
+-- "copy id 0, then id 1 if duplicated, same due"
+unfoldable pub enterCopies : Machine → Float → Bool → Float → List ℕ → ℕ → Entry
+enterCopies m due duplicated now bytes route =
+    let first = enterCopy due now route bytes 0 (entry m 0 0) in
+    cond duplicated (enterCopy due now route bytes 1 first) first
+
+-- "tcp_rst_kills + 1"
+unfoldable pub resetOf : SendAccountant → SendAccountant
+resetOf a =
+    record {
+      «sent_pkts» = a .«sent_pkts»;
+      «sent_bytes» = a .«sent_bytes»;
+      «dropped_overflow» = a .«dropped_overflow»;
+      «tcp_rst_kills» = a .«tcp_rst_kills» + 1;
+      «nat_rebinds» = a .«nat_rebinds»;
+      latency = a .latency;
+    }
+
+-- "held copies move to torn"
+abbrev pub tear : Machine → Machine
+tear m = machine (m .engine) (m .cap) [] (m .nextSeq) (m .accounts) (m .torn + length (m .held))
+
+abbrev pub withAccounts : Machine → SendAccountant → Machine
+withAccounts m a = machine (m .engine) (m .cap) (m .held) (m .nextSeq) a (m .torn)
+
+abbrev pub entersAs : Decision → Entry → Step
+entersAs d e = stepTo (decided d (e .entered) (e .overflowed) 0) (e .then)
+
+-- what follows the decision; the machine has the engine that decided
+unfoldable pub follow : Machine → Decision → Float → List ℕ → ℕ → Step
+follow m DropRandom now bytes route = stepTo (decided DropRandom 0 0 0) m
+follow m DropGe now bytes route = stepTo (decided DropGe 0 0 0) m
+follow m DropMtu now bytes route = stepTo (decided DropMtu 0 0 0) m
+follow m DropBlackout now bytes route = stepTo (decided DropBlackout 0 0 0) m
+follow m DropKillHold now bytes route = stepTo (decided DropKillHold 0 0 0) m
+follow m (Enqueue due duplicated) now bytes route = entersAs (Enqueue due duplicated) (enterCopies m due duplicated now bytes route)
+follow m KillRst now bytes route = stepTo (decided KillRst 0 0 (length (m .held))) (tear (withAccounts m (resetOf (m .accounts))))
+
+unfoldable pub arriveStep : Machine → Float → List ℕ → ℕ → Step
+arriveStep m now bytes route =
+    let d = decideUncheckedOf (m .engine) now (length bytes) in
+    unless m (isInstantOf now) (isLengthOf (length bytes)) (follow (withEngine m (d .engine)) (d .decision) now bytes route)
+
+-- ---- release(now)
+
+-- the copy "leaves and is accounted with latency now − arrival"
+abbrev pub leave : Machine → Float → Copy → Machine
+leave m now c = machine (m .engine) (m .cap) (without (c .seq) (m .held)) (m .nextSeq) (sentOf (m .accounts) (c .length) (sub binary64 now (c .arrival))) (m .torn)
+
+unfoldable pub leaveIfDue : Machine → Float → Copy → Step
+leaveIfDue m now c = cond (le (c .due) now) (stepTo (released c) (leave m now c)) (stepTo noneDue m)
+
+-- "the least (due, seq)" of the held list
+unfoldable pub releaseLeast : Machine → Float → List Copy → Step
+releaseLeast m now [] = stepTo noneDue m
+releaseLeast m now (c ∷ l) = leaveIfDue m now (least c l)
+
+unfoldable pub releaseStep : Machine → Float → Step
+releaseStep m now = unless m (isInstantOf now) true (releaseLeast m now (m .held))
+
+-- ---- rebind(now): "as `should_rebind_now`"
+
+unfoldable pub rebindStep : Machine → Float → Step
+rebindStep m now =
+    unless m (isInstantOf now) true
+    (cond (le (m .engine .«next_rebind_ms») now) (stepTo (rebound true) (withEngine m (reboundOf (m .engine)))) (stepTo (rebound false) m))
+
+-- ---- teardown: "all held go to torn; their number is said"
+
+unfoldable pub teardownStep : Machine → Step
+teardownStep m = unless m true true (stepTo (toreDown (length (m .held))) (tear m))
+
+-- ---- report: "the engine's stats with accounts merged into a copy, held .., torn; changes nothing"
+
+unfoldable pub reportStep : Machine → Step
+reportStep m = unless m true true (stepTo (reported (mergedOf (m .accounts) (m .engine .stats)) (length (m .held)) (m .torn)) m)
+
+-- ---- a call, and a list of calls, each on what the last one left
+
+unfoldable pub step : Machine → Call → Step
+step m (arrive now bytes route) = arriveStep m now bytes route
+step m (release now) = releaseStep m now
+step m (rebind now) = rebindStep m now
+step m teardown = teardownStep m
+step m report = reportStep m
+
+unfoldable pub answers : Machine → List Call → List Answer
+answers m [] = []
+answers m (c ∷ cs) = step m c .answer ∷ answers (step m c .then) cs
+
+unfoldable pub afterAll : Machine → List Call → Machine
+afterAll m [] = m
+afterAll m (c ∷ cs) = afterAll (step m c .then) cs

@@ -1,0 +1,64 @@
+-- What demand 3 counts from the answers: "received, arrive calls not refused; random, GE, MTU, blackout, those decided as that drop (a hold is blackout); reset,
+-- those decided KillRst; duplicates, Enqueue decisions that are duplicated; overflow and torn, the sums of copies said to be overflowed or torn; released, copies
+-- handed out."
+use mathlib.Core.List.{List, [], _∷_}
+use Prim.Native.Nat.{ℕ, _+_}
+use Rattle.steps.specs.declared.decision.Decision.{Decision}
+use Rattle.steps.specs.declared.decision.Decision.the-variants.{DropRandom, DropGe, DropMtu, DropBlackout, DropKillHold, Enqueue, KillRst}
+use Rattle.engine.specs.Counts.{oneIf}
+use Rattle.machine.specs.Calls.{Answer, decided, released, noneDue, rebound, toreDown, reported, refused}
+
+pub record Tally : Type 0 where
+  pub received : ℕ
+  pub random : ℕ
+  pub ge : ℕ
+  pub mtu : ℕ
+  pub blackout : ℕ
+  pub reset : ℕ
+  pub duplicates : ℕ
+  pub overflow : ℕ
+  pub released : ℕ
+  pub torn : ℕ
+
+abbrev pub tally : ℕ → ℕ → ℕ → ℕ → ℕ → ℕ → ℕ → ℕ → ℕ → ℕ → Tally
+tally i r g m b k d o s t = record { received = i; random = r; ge = g; mtu = m; blackout = b; reset = k; duplicates = d; overflow = o; released = s; torn = t }
+
+abbrev pub nothing : Tally
+nothing = tally 0 0 0 0 0 0 0 0 0 0
+
+-- an arrival that was decided so, with so many copies overflowed and torn
+abbrev pub arrival : Decision → ℕ → ℕ → Tally
+arrival DropRandom o t = tally 1 1 0 0 0 0 0 o 0 t
+arrival DropGe o t = tally 1 0 1 0 0 0 0 o 0 t
+arrival DropMtu o t = tally 1 0 0 1 0 0 0 o 0 t
+arrival DropBlackout o t = tally 1 0 0 0 1 0 0 o 0 t
+arrival DropKillHold o t = tally 1 0 0 0 1 0 0 o 0 t
+arrival (Enqueue due duplicated) o t = tally 1 0 0 0 0 0 (oneIf duplicated) o 0 t
+arrival KillRst o t = tally 1 0 0 0 0 1 0 o 0 t
+
+-- what one answer adds
+abbrev pub tallyOf : Answer → Tally
+tallyOf (decided d entered overflowed torn) = arrival d overflowed torn
+tallyOf (released c) = tally 0 0 0 0 0 0 0 0 1 0
+tallyOf noneDue = nothing
+tallyOf (rebound b) = nothing
+tallyOf (toreDown n) = tally 0 0 0 0 0 0 0 0 0 n
+tallyOf (reported s held torn) = nothing
+tallyOf (refused k) = nothing
+
+abbrev pub plus : Tally → Tally → Tally
+plus x y =
+    tally (x .received + y .received) (x .random + y .random) (x .ge + y .ge) (x .mtu + y .mtu) (x .blackout + y .blackout) (x .reset + y .reset)
+    (x .duplicates + y .duplicates) (x .overflow + y .overflow) (x .released + y .released) (x .torn + y .torn)
+
+-- what a list of answers adds up to
+unfoldable pub total : List Answer → Tally
+total [] = nothing
+total (a ∷ l) = plus (tallyOf a) (total l)
+
+-- demand 3's two sides
+abbrev pub cameIn : Tally → ℕ
+cameIn x = x .received + x .duplicates
+
+abbrev pub accountedFor : Tally → ℕ → ℕ
+accountedFor x held = x .random + x .ge + x .mtu + x .blackout + x .reset + x .overflow + x .released + x .torn + held
