@@ -1,0 +1,2 @@
+pub mod CopySteps
+pub mod FollowSteps

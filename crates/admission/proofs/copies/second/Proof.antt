@@ -1,0 +1,58 @@
+-- Nothing more, or a push, counted.
+use Rattle.admission.proofs.CopySteps.{second-none, second-is}
+use borrow.Author.Needs.{needs}
+use Rattle.admission.proofs.copies.second.Statement.{statement}
+use Rattle.admission.proofs.copies.second.Tie as tie
+
+returns : tie.Need-returns
+returns c = second-none _ _ _ _ _ _ _ _ (c .if1 .taken)
+
+push-again-requires : tie.Need-push-again-requires
+push-again-requires c κs = search needs
+
+tallied-requires : tie.Need-tallied-requires
+tallied-requires c κs = c .before .before .before .before .before .before .before .before .before .before .before .before .before .before .before .before .before .before .before .before .before .before .before .before .before .before .before .before .before .before .before .before .before .before .before .before .before .before .pre
+
+same-length : tie.Need-same-length
+same-length c = search needs
+
+same-length-2 : tie.Need-same-length-2
+same-length-2 c = search needs
+
+same-length-3 : tie.Need-same-length-3
+same-length-3 c = search needs
+
+same-length-4 : tie.Need-same-length-4
+same-length-4 c = search needs
+
+same-length-5 : tie.Need-same-length-5
+same-length-5 c = search needs
+
+same-length-6 : tie.Need-same-length-6
+same-length-6 c = search needs
+
+same-length-7 : tie.Need-same-length-7
+same-length-7 c = search needs
+
+same-length-8 : tie.Need-same-length-8
+same-length-8 c = search needs
+
+returns-2 : tie.Need-returns-2
+returns-2 c = second-is _ _ _ _ _ _ _ _ _ _ (c .before .before .before .before .before .before .before .before .before .before .before .before .before .before .before .before .before .before .before .before .before .before .before .before .before .before .before .if1 .left) (c .tallied .ensures) (c .before .before .before .before .before .before .before .before .before .before .before .before .before .before .before .before .before .push-again .ensures)
+
+pub second-spec : {M : Type 1} → statement M
+second-spec =
+    tie.close
+    (tie.spec
+    returns
+    push-again-requires
+    tallied-requires
+    same-length
+    same-length-2
+    same-length-3
+    same-length-4
+    same-length-5
+    same-length-6
+    same-length-7
+    same-length-8
+    returns-2)

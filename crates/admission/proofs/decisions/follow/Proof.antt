@@ -1,0 +1,74 @@
+-- By the decision.
+use Rattle.admission.proofs.FollowSteps.{enqueue-follows, reset-follows, drop-follows}
+use borrow.Author.Needs.{needs}
+use Rattle.admission.proofs.decisions.follow.Statement.{statement}
+use Rattle.admission.proofs.decisions.follow.Tie as tie
+
+enum-known-decision : tie.Need-enum-known-decision
+enum-known-decision c = search needs
+
+admit-requires : tie.Need-admit-requires
+admit-requires c κs = search needs
+
+enum-told : tie.Need-enum-told
+enum-told c = search needs
+
+torn-requires : tie.Need-torn-requires
+torn-requires c κs = search needs
+
+untouched-requires : tie.Need-untouched-requires
+untouched-requires c κs = search needs
+
+same-length : tie.Need-same-length
+same-length c = search needs
+
+same-length-2 : tie.Need-same-length-2
+same-length-2 c = search needs
+
+same-length-3 : tie.Need-same-length-3
+same-length-3 c = search needs
+
+same-length-4 : tie.Need-same-length-4
+same-length-4 c = search needs
+
+same-length-5 : tie.Need-same-length-5
+same-length-5 c = search needs
+
+same-length-6 : tie.Need-same-length-6
+same-length-6 c = search needs
+
+same-length-7 : tie.Need-same-length-7
+same-length-7 c = search needs
+
+same-length-8 : tie.Need-same-length-8
+same-length-8 c = search needs
+
+returns : tie.Need-returns
+returns c = enqueue-follows _ _ _ _ _ _ _ _ _ _ (c .before .before .before .before .before .before .before .before .before .before .before .before .before .before .before .before .before .before .before .before .before .before .before .before .before .before .decision .given .1) (c .before .before .before .before .before .before .before .before .before .before .before .before .before .before .before .before .admit .ensures)
+
+returns-2 : tie.Need-returns-2
+returns-2 c = reset-follows _ _ _ _ _ _ _ _ (c .before .enum-told .given .1) (c .torn .ensures)
+
+returns-3 : tie.Need-returns-3
+returns-3 c = drop-follows _ _ _ _ _ _ _ _ (c .before .match .keys3) (c .untouched .ensures)
+
+pub follow-spec : {M : Type 1} → statement M
+follow-spec =
+    tie.close
+    (tie.spec
+    enum-known-decision
+    admit-requires
+    enum-told
+    torn-requires
+    untouched-requires
+    same-length
+    same-length-2
+    same-length-3
+    same-length-4
+    same-length-5
+    same-length-6
+    same-length-7
+    same-length-8
+    returns
+    returns-2
+    returns-3)

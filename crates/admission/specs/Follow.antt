@@ -1,0 +1,20 @@
+-- What follows each decision: "Drop: no more. KillRst: .. held copies move to torn. Enqueue: copy id 0, then id 1 if duplicated".
+use mathlib.Core.List.{List}
+use Prim.Native.Nat.{ℕ}
+use lib.Ieee.{Float}
+use Rattle.steps.specs.declared.decision.Decision.{Decision}
+use Rattle.steps.specs.declared.decision.Decision.the-variants.{DropRandom, DropGe, DropMtu, DropBlackout, DropKillHold, Enqueue, KillRst}
+use Rattle.queue.specs.Tables.{Tables, After, after}
+use Rattle.queue.specs.declared.queue.ImpairQueue.{ImpairQueue}
+use Rattle.admission.specs.Admitted.{untouched, tornOf}
+use Rattle.admission.specs.Copies.{copiesOf}
+use Rattle.admission.specs.declared.admitted.Admitted.{Admitted}
+
+unfoldable pub followOf : ℕ → ImpairQueue → Tables → Decision → Float → ℕ → List ℕ → After Admitted
+followOf width q t DropRandom now route bytes = after (untouched q) t
+followOf width q t DropGe now route bytes = after (untouched q) t
+followOf width q t DropMtu now route bytes = after (untouched q) t
+followOf width q t DropBlackout now route bytes = after (untouched q) t
+followOf width q t DropKillHold now route bytes = after (untouched q) t
+followOf width q t (Enqueue due duplicated) now route bytes = copiesOf width q t duplicated due now route bytes
+followOf width q t KillRst now route bytes = after (tornOf q) t

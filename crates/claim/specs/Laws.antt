@@ -1,0 +1,12 @@
+-- In order: Kept (the relation), Short (lists of short copies), Agree (a call that agrees with a step; refusals and drains), Creation, Counts (what a device counts
+-- at once), Copies (the copies of one packet), Arrive, Release, Others (each call keeps the relation and answers as the machine does), Runs (every list of calls).
+pub mod Kept
+pub mod Short
+pub mod Agree
+pub mod Creation
+pub mod Counts
+pub mod Copies
+pub mod Arrive
+pub mod Release
+pub mod Others
+pub mod Runs

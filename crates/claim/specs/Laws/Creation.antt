@@ -1,0 +1,51 @@
+-- A device that was created keeps the fresh machine.
+use mathlib.Core.Path.{_≡_, refl}
+use mathlib.Core.Bool.{Bool, true, false}
+use mathlib.Core.List.{[]}
+use Prim.Native.Nat.{ℕ}
+use native.Mathlib.Omega.{arith}
+use Rattle.draws.specs.Mix.{directionSeedOf}
+use Rattle.numbers.specs.Refusals.{refusedSettings}
+use Rattle.options.specs.Judgement.{isSettingsOf}
+use Rattle.options.specs.declared.config.DirectionConfig.{DirectionConfig}
+use Rattle.engine.specs.Calls.{newOf}
+use Rattle.engine.specs.Engine.{freshOf}
+use Rattle.engine.specs.Laws.Sound.{fresh-sound}
+use Rattle.queue.specs.Calls.{createOf as queueCreateOf}
+use Rattle.queue.specs.Refusals.{slotWidth}
+use Rattle.queue.specs.Tables.{Tables}
+use Rattle.queue.specs.declared.answers.CreateAnswer.{CreateAnswer as QueueAnswer}
+use Rattle.queue.specs.declared.answers.CreateAnswer.the-variants as made
+use Rattle.queue.specs.declared.queue.ImpairQueue.{ImpairQueue}
+use Rattle.queue_laws.specs.Held.{plain}
+use Rattle.queue_laws.specs.Laws.Creation.{create-keeps}
+use Rattle.queue_laws.specs.Laws.Keeps.{Keeps}
+use Rattle.machine.specs.Machine.{freshMachine}
+use Rattle.device.specs.Creation.{notCreated, queuedBy, createdBy, createOf}
+use Rattle.device.specs.declared.answers.CreateAnswer.the-variants as answer
+use Rattle.device.specs.declared.answers.Created.{Created}
+use Rattle.claim.specs.Laws.Kept.{Kept}
+
+module _ (cfg : DirectionConfig) (seed salt cap : ℕ) (t : Tables) where
+  -- what a creation that says Created gives
+  abbrev Fresh : Created → Type 0
+  Fresh c = c .answer ≡ answer.Created → Kept (c .device) t (freshMachine cfg seed salt cap)
+
+  not-created : (k : ℕ) → Fresh (notCreated k)
+  unfolding notCreated
+  not-created k h = let z : _≡_ {A = ℕ} 0 1 = cc in absurd (omega arith)
+
+  queued : isSettingsOf cfg ≡ true → (a : QueueAnswer) (q : ImpairQueue) → (a ≡ made.Created → Keeps slotWidth t q (plain cap [] 0))
+      → Fresh (queuedBy (freshOf cfg (directionSeedOf seed salt)) a q)
+  unfolding queuedBy freshMachine
+  queued settings made.Created q keeps h = record { engine = refl; accounts = refl; torn = refl; queue = keeps refl; sound = fresh-sound cfg (directionSeedOf seed salt) settings; short = tt }
+  queued settings (made.Refused n) q keeps h = not-created n h
+
+  -- a creation that was not refused
+  pub create-kept : createOf slotWidth cfg seed salt cap t .answer ≡ answer.Created → Kept (createOf slotWidth cfg seed salt cap t .device) t (freshMachine cfg seed salt cap)
+  unfolding createOf createdBy newOf
+  create-kept = go (isSettingsOf cfg) refl
+    where
+      go : (b : Bool) → isSettingsOf cfg ≡ b → Fresh (createOf slotWidth cfg seed salt cap t)
+      go true e = rw e (queued e (queueCreateOf slotWidth cap t .answer) (queueCreateOf slotWidth cap t .queue) (create-keeps slotWidth cap t))
+      go false e = rw e (not-created refusedSettings)

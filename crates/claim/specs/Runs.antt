@@ -1,0 +1,238 @@
+-- Runs of the program: each step is a call of a function of crates/device, answered and its tables left as the function's own contract says (`Learnt`), and begins
+-- with what the last one left.
+use mathlib.Core.Path.{_≡_, refl, sym, ap, _∙_}
+use mathlib.Core.List.{List, [], _∷_}
+use Prim.Native.Nat.{ℕ}
+use lib.Dec.{T}
+use lib.Ieee.{Float, binary64, fits}
+use denote.Ref.{now}
+use contract.Lifetimes
+use borrow.Fn.World
+use borrow.Fn.Kinds as Kinds'
+use denote.Triple.Clauses
+use Rattle.options.specs.Parse.{parseOf}
+use Rattle.options.specs.declared.config.DirectionConfig.{DirectionConfig}
+use Rattle.options.specs.declared.outcome.Parsed.{Parsed}
+use Rattle.queue.specs.Tables.{Tables, tables, After, after}
+use Rattle.queue.specs.Refusals.{slotWidth}
+use Rattle.queue.specs.Calls.{payloadOf}
+use Rattle.queue.specs.declared.answers.Queued.{Queued}
+use Rattle.queue.specs.declared.answers.ReleaseAnswer.{ReleaseAnswer}
+use Rattle.queue.specs.declared.answers.ReleaseAnswer.the-variants as left
+use Rattle.queue_laws.specs.Held.{copy}
+use Rattle.machine.specs.Calls.{Call, arrive as arriveCall, release as releaseCall, rebind as rebindCall, teardown as teardownCall, report as reportCall, Answer, released, noneDue, refused}
+use Rattle.device.specs.Creation.{createOf}
+use Rattle.device.specs.Arrive.{arriveOf}
+use Rattle.device.specs.Release.{releaseOf}
+use Rattle.device.specs.Others.{rebindOf, teardownOf, reportOf}
+use Rattle.device.specs.declared.answers.Arrived.{Arrived}
+use Rattle.device.specs.declared.answers.Created.{Created}
+use Rattle.device.specs.declared.answers.Rebound.{Rebound}
+use Rattle.device.specs.declared.answers.Released.{Released}
+use Rattle.device.specs.declared.answers.Reported.{Reported}
+use Rattle.device.specs.declared.answers.TornDown.{TornDown}
+use Rattle.device.specs.declared.device.Device.{Device}
+use Rattle.device.proofs.device.Device.create as create-fn
+use Rattle.device.proofs.device.Device.create.Reads as create
+use Rattle.device.proofs.device.Device.create.Kinds as create-kinds
+use Rattle.device.proofs.device.Device.arrive as arrive-fn
+use Rattle.device.proofs.device.Device.arrive.Reads as arrive
+use Rattle.device.proofs.device.Device.arrive.Kinds as arrive-kinds
+use Rattle.device.proofs.device.Device.release as release-fn
+use Rattle.device.proofs.device.Device.release.Reads as release
+use Rattle.device.proofs.device.Device.release.Kinds as release-kinds
+use Rattle.device.proofs.device.Device.rebind as rebind-fn
+use Rattle.device.proofs.device.Device.rebind.Reads as rebind
+use Rattle.device.proofs.device.Device.rebind.Kinds as rebind-kinds
+use Rattle.device.proofs.device.Device.teardown as teardown-fn
+use Rattle.device.proofs.device.Device.teardown.Reads as teardown
+use Rattle.device.proofs.device.Device.teardown.Kinds as teardown-kinds
+use Rattle.device.proofs.device.Device.report as report-fn
+use Rattle.device.proofs.device.Device.report.Reads as report
+use Rattle.device.proofs.device.Device.report.Kinds as report-kinds
+use Rattle.device.proofs.payload as payload-fn
+use Rattle.device.proofs.payload.Reads as payload
+use Rattle.device.proofs.payload.Kinds as payload-kinds
+use Rattle.options.proofs.parse_config as parse-fn
+use Rattle.options.proofs.parse_config.Reads as parse
+use Rattle.options.proofs.parse_config.Kinds as parse-kinds
+use Rattle.claim.specs.Replies.{saidOfArrive, saidOfRelease, saidOfRebind, saidOfTeardown, saidOfReport, saidByArrive, saidByRelease, saidByRebind, saidByTeardown, answerTo, answersTo, Binary64}
+
+-- ---- the tables that a call begins with, and those that it leaves: what is lent to be read stays
+
+abbrev pub createTables : (κs : Lifetimes.Lfts 9) → World.ArgsD create-fn.signature κs → Tables
+createTables κs a =
+    tables (now (a .1 .1 .1 .1 .0)) (now (a .1 .1 .1 .1 .1 .0)) (now (a .1 .1 .1 .1 .1 .1 .0)) (now (a .1 .1 .1 .1 .1 .1 .1 .0))
+    (now (a .1 .1 .1 .1 .1 .1 .1 .1 .0)) (now (a .1 .1 .1 .1 .1 .1 .1 .1 .1 .0)) (now (a .1 .1 .1 .1 .1 .1 .1 .1 .1 .1 .0))
+    (now (a .1 .1 .1 .1 .1 .1 .1 .1 .1 .1 .1 .0)) (now (a .1 .1 .1 .1 .1 .1 .1 .1 .1 .1 .1 .1 .0))
+
+abbrev pub arriveTables : (κs : Lifetimes.Lfts 10) → World.ArgsD arrive-fn.signature κs → Tables
+arriveTables κs a =
+    tables (now (a .1 .0)) (now (a .1 .1 .0)) (now (a .1 .1 .1 .0)) (now (a .1 .1 .1 .1 .0))
+    (now (a .1 .1 .1 .1 .1 .0)) (now (a .1 .1 .1 .1 .1 .1 .0)) (now (a .1 .1 .1 .1 .1 .1 .1 .0))
+    (now (a .1 .1 .1 .1 .1 .1 .1 .1 .0)) (now (a .1 .1 .1 .1 .1 .1 .1 .1 .1 .0))
+
+abbrev pub arriveLeaves : (κs : Lifetimes.Lfts 10) → World.ArgsD arrive-fn.signature κs → Clauses.AtExit (Kinds'.endedOf 10 arrive-kinds.ps arrive-kinds.r) κs → Tables
+arriveLeaves κs a s =
+    tables (now (s .1 .0)) (now (a .1 .1 .0)) (now (s .1 .1 .1 .0)) (now (s .1 .1 .1 .1 .0))
+    (now (s .1 .1 .1 .1 .1 .0)) (now (s .1 .1 .1 .1 .1 .1 .0)) (now (s .1 .1 .1 .1 .1 .1 .1 .0))
+    (now (s .1 .1 .1 .1 .1 .1 .1 .1 .0)) (now (s .1 .1 .1 .1 .1 .1 .1 .1 .1 .0))
+
+abbrev pub releaseTables : (κs : Lifetimes.Lfts 9) → World.ArgsD release-fn.signature κs → Tables
+releaseTables κs a =
+    tables (now (a .1 .0)) (now (a .1 .1 .0)) (now (a .1 .1 .1 .0)) (now (a .1 .1 .1 .1 .0))
+    (now (a .1 .1 .1 .1 .1 .0)) (now (a .1 .1 .1 .1 .1 .1 .0)) (now (a .1 .1 .1 .1 .1 .1 .1 .0))
+    (now (a .1 .1 .1 .1 .1 .1 .1 .1 .0)) (now (a .1 .1 .1 .1 .1 .1 .1 .1 .1 .0))
+
+abbrev pub releaseLeaves : (κs : Lifetimes.Lfts 9) → World.ArgsD release-fn.signature κs → Clauses.AtExit (Kinds'.endedOf 9 release-kinds.ps release-kinds.r) κs → Tables
+releaseLeaves κs a s =
+    tables (now (s .1 .0)) (now (s .1 .1 .0)) (now (s .1 .1 .1 .0)) (now (s .1 .1 .1 .1 .0))
+    (now (a .1 .1 .1 .1 .1 .0)) (now (a .1 .1 .1 .1 .1 .1 .0)) (now (a .1 .1 .1 .1 .1 .1 .1 .0))
+    (now (a .1 .1 .1 .1 .1 .1 .1 .1 .0)) (now (a .1 .1 .1 .1 .1 .1 .1 .1 .1 .0))
+
+-- ---- calls: `Learnt` is what the function's contract ensures of its arguments, its result and the tables at exit
+
+-- a call of `parse_config` on a text returned r
+pub data Parses (text : List ℕ) : Parsed → Type 1 where
+  called : (κs : Lifetimes.Lfts 1) (a : World.ArgsD parse-fn.signature κs) (r : World.ResD parse-fn.signature κs) (s : Clauses.AtExit (Kinds'.endedOf 1 parse-kinds.ps parse-kinds.r) κs)
+      → now (a .0) ≡ text
+      → parse.Learnt κs a r s
+      → Parses text r
+
+-- a call of `create` over the tables t returned r
+pub data Creates (cfg : DirectionConfig) (seed salt cap : ℕ) (t : Tables) : Created → Type 1 where
+  called : (κs : Lifetimes.Lfts 9) (a : World.ArgsD create-fn.signature κs) (r : World.ResD create-fn.signature κs) (s : Clauses.AtExit (Kinds'.endedOf 9 create-kinds.ps create-kinds.r) κs)
+      → a .0 ≡ cfg → a .1 .0 ≡ seed → a .1 .1 .0 ≡ salt → a .1 .1 .1 .0 ≡ cap → createTables κs a ≡ t
+      → create.Learnt κs a r s
+      → Creates cfg seed salt cap t r
+
+-- a call of `arrive` on the device v and the tables t returned r and left tables; the instant is a number of binary64, as every f64 is
+pub data Arrives (v : Device) (t : Tables) (instant : Float) (bytes : List ℕ) (route : ℕ) : Arrived → Tables → Type 1 where
+  called : (κs : Lifetimes.Lfts 10) (a : World.ArgsD arrive-fn.signature κs) (r : World.ResD arrive-fn.signature κs) (s : Clauses.AtExit (Kinds'.endedOf 10 arrive-kinds.ps arrive-kinds.r) κs)
+      → T (fits binary64 instant)
+      → a .0 ≡ v → arriveTables κs a ≡ t
+      → a .1 .1 .1 .1 .1 .1 .1 .1 .1 .1 .0 ≡ instant
+      → now (a .1 .1 .1 .1 .1 .1 .1 .1 .1 .1 .1 .0) ≡ bytes
+      → a .1 .1 .1 .1 .1 .1 .1 .1 .1 .1 .1 .1 .0 ≡ route
+      → arrive.Learnt κs a r s
+      → Arrives v t instant bytes route r (arriveLeaves κs a s)
+
+-- a call of `release` at an instant
+pub data Releases (v : Device) (t : Tables) (instant : Float) : Released → Tables → Type 1 where
+  called : (κs : Lifetimes.Lfts 9) (a : World.ArgsD release-fn.signature κs) (r : World.ResD release-fn.signature κs) (s : Clauses.AtExit (Kinds'.endedOf 9 release-kinds.ps release-kinds.r) κs)
+      → a .0 ≡ v → releaseTables κs a ≡ t
+      → a .1 .1 .1 .1 .1 .1 .1 .1 .1 .1 .0 ≡ instant
+      → release.Learnt κs a r s
+      → Releases v t instant r (releaseLeaves κs a s)
+
+-- calls of `rebind`, `teardown` and `report`, which are lent no table
+pub data Rebinds (v : Device) (instant : Float) : Rebound → Type 1 where
+  called : (κs : Lifetimes.Lfts 0) (a : World.ArgsD rebind-fn.signature κs) (r : World.ResD rebind-fn.signature κs) (s : Clauses.AtExit (Kinds'.endedOf 0 rebind-kinds.ps rebind-kinds.r) κs)
+      → a .0 ≡ v → a .1 .0 ≡ instant
+      → rebind.Learnt κs a r s
+      → Rebinds v instant r
+
+pub data TearsDown (v : Device) : TornDown → Type 1 where
+  called : (κs : Lifetimes.Lfts 0) (a : World.ArgsD teardown-fn.signature κs) (r : World.ResD teardown-fn.signature κs) (s : Clauses.AtExit (Kinds'.endedOf 0 teardown-kinds.ps teardown-kinds.r) κs)
+      → a .0 ≡ v
+      → teardown.Learnt κs a r s
+      → TearsDown v r
+
+pub data Reports (v : Device) : Reported → Type 1 where
+  called : (κs : Lifetimes.Lfts 0) (a : World.ArgsD report-fn.signature κs) (r : World.ResD report-fn.signature κs) (s : Clauses.AtExit (Kinds'.endedOf 0 report-kinds.ps report-kinds.r) κs)
+      → a .0 ≡ v
+      → report.Learnt κs a r s
+      → Reports v r
+
+-- a call of `payload` on a store, with a slot and a length, returned bytes
+pub data Reads (store : List ℕ) (slot len : ℕ) : List ℕ → Type 1 where
+  called : (κs : Lifetimes.Lfts 1) (a : World.ArgsD payload-fn.signature κs) (r : World.ResD payload-fn.signature κs) (s : Clauses.AtExit (Kinds'.endedOf 1 payload-kinds.ps payload-kinds.r) κs)
+      → now (a .0) ≡ store → a .1 .0 ≡ slot → a .1 .1 .0 ≡ len
+      → payload.Learnt κs a r s
+      → Reads store slot len (now r)
+
+-- what an answer of `release` says, with the bytes that `payload` reads in the store that is left
+pub data Says (store : List ℕ) : ReleaseAnswer → Answer → Type 1 where
+  hands-out : {c : Queued} {bytes : List ℕ} → Reads store (c .slot) (c .length) bytes
+      → Says store (left.Released c) (released (copy (c .«due_ms») (c .seq) (c .«arrival_ms») (c .route) (c .«copy_id») (c .length) bytes))
+  none : Says store left.NoneDue noneDue
+  refuses : {k : ℕ} → Says store (left.Refused k) (refused k)
+
+-- a run over a list of calls, with its answers
+pub data Ran : Device → Tables → List Call → List Answer → Type 1 where
+  done : {v : Device} {t : Tables} → Ran v t [] []
+  arrives : {v : Device} {t t′ : Tables} {instant : Float} {bytes : List ℕ} {route : ℕ} {r : Arrived} {cs : List Call} {rs : List Answer}
+      → Arrives v t instant bytes route r t′ → Ran (r .device) t′ cs rs
+      → Ran v t (arriveCall instant bytes route ∷ cs) (saidOfArrive (r .answer) ∷ rs)
+  releases : {v : Device} {t t′ : Tables} {instant : Float} {r : Released} {reply : Answer} {cs : List Call} {rs : List Answer}
+      → Releases v t instant r t′ → Says (t′ .store) (r .answer) reply → Ran (r .device) t′ cs rs
+      → Ran v t (releaseCall instant ∷ cs) (reply ∷ rs)
+  rebinds : {v : Device} {t : Tables} {instant : Float} {r : Rebound} {cs : List Call} {rs : List Answer}
+      → Rebinds v instant r → Ran (r .device) t cs rs
+      → Ran v t (rebindCall instant ∷ cs) (saidOfRebind (r .answer) ∷ rs)
+  tearsDown : {v : Device} {t : Tables} {r : TornDown} {cs : List Call} {rs : List Answer}
+      → TearsDown v r → Ran (r .device) t cs rs
+      → Ran v t (teardownCall ∷ cs) (saidOfTeardown (r .answer) ∷ rs)
+  -- a report hands back no device: the host goes on with the one that it has
+  reports : {v : Device} {t : Tables} {r : Reported} {cs : List Call} {rs : List Answer}
+      → Reports v r → Ran v t cs rs
+      → Ran v t (reportCall ∷ cs) (saidOfReport r ∷ rs)
+
+-- ---- what each call returns is what its definition gives
+
+pub parses-is : {text : List ℕ} {r : Parsed} → Parses text r → r ≡ parseOf text
+parses-is (Parses.called κs a r s et h) = h ∙ ap parseOf et
+
+pub creates-is : {cfg : DirectionConfig} {seed salt cap : ℕ} {t : Tables} {r : Created} → Creates cfg seed salt cap t r → r ≡ createOf slotWidth cfg seed salt cap t
+creates-is (Creates.called κs a r s ec es el en et h) = h ∙ (λ i. createOf slotWidth (ec i) (es i) (el i) (en i) (et i))
+
+arrives-is : {v : Device} {t : Tables} {instant : Float} {bytes : List ℕ} {route : ℕ} {r : Arrived} {t′ : Tables} → Arrives v t instant bytes route r t′ → after r t′ ≡ arriveOf slotWidth v t instant bytes route
+arrives-is (Arrives.called κs a r s fit ev et ei eb er h) = h ∙ (λ i. arriveOf slotWidth (ev i) (et i) (ei i) (eb i) (er i))
+
+arrives-fit : {v : Device} {t : Tables} {instant : Float} {bytes : List ℕ} {route : ℕ} {r : Arrived} {t′ : Tables} → Arrives v t instant bytes route r t′ → T (fits binary64 instant)
+arrives-fit (Arrives.called κs a r s fit ev et ei eb er h) = fit
+
+releases-is : {v : Device} {t : Tables} {instant : Float} {r : Released} {t′ : Tables} → Releases v t instant r t′ → after r t′ ≡ releaseOf slotWidth v t instant
+releases-is (Releases.called κs a r s ev et ei h) = h ∙ (λ i. releaseOf slotWidth (ev i) (et i) (ei i))
+
+rebinds-is : {v : Device} {instant : Float} {r : Rebound} → Rebinds v instant r → r ≡ rebindOf v instant
+rebinds-is (Rebinds.called κs a r s ev ei h) = h ∙ (λ i. rebindOf (ev i) (ei i))
+
+tears-is : {v : Device} {r : TornDown} → TearsDown v r → r ≡ teardownOf v
+tears-is (TearsDown.called κs a r s ev h) = h ∙ ap teardownOf ev
+
+reports-is : {v : Device} {r : Reported} → Reports v r → r ≡ reportOf v
+reports-is (Reports.called κs a r s ev h) = h ∙ ap reportOf ev
+
+reads-is : {store : List ℕ} {slot len : ℕ} {bytes : List ℕ} → Reads store slot len bytes → bytes ≡ payloadOf slotWidth store slot len
+reads-is (Reads.called κs a r s es et el h) = h ∙ (λ i. payloadOf slotWidth (es i) (et i) (el i))
+
+says-is : {store : List ℕ} {a : ReleaseAnswer} {r : Answer} → Says store a r → r ≡ saidOfRelease slotWidth store a
+says-is (hands-out {c} h) = ap (λ (b : List ℕ). released (copy (c .«due_ms») (c .seq) (c .«arrival_ms») (c .route) (c .«copy_id») (c .length) b)) (reads-is h)
+says-is none = refl
+says-is refuses = refl
+
+pub ran-is : {v : Device} {t : Tables} {cs : List Call} {rs : List Answer} → Ran v t cs rs → rs ≡ answersTo v t cs
+unfolding answersTo answerTo
+ran-is done = refl
+ran-is (arrives {r = r} {cs = cs} c k) =
+    ap (λ (l : List Answer). saidOfArrive (r .answer) ∷ l) (ran-is k)
+    ∙ ap (λ (o : After Arrived). saidByArrive o .reply ∷ answersTo (saidByArrive o .device) (saidByArrive o .tables) cs) (arrives-is c)
+ran-is (releases {r = r} {cs = cs} c a k) =
+    (λ i. says-is a i ∷ ran-is k i)
+    ∙ ap (λ (o : After Released). saidByRelease o .reply ∷ answersTo (saidByRelease o .device) (saidByRelease o .tables) cs) (releases-is c)
+ran-is (rebinds {t = t} {r = r} {cs = cs} c k) =
+    ap (λ (l : List Answer). saidOfRebind (r .answer) ∷ l) (ran-is k)
+    ∙ ap (λ (o : Rebound). saidByRebind t o .reply ∷ answersTo (saidByRebind t o .device) (saidByRebind t o .tables) cs) (rebinds-is c)
+ran-is (tearsDown {t = t} {r = r} {cs = cs} c k) =
+    ap (λ (l : List Answer). saidOfTeardown (r .answer) ∷ l) (ran-is k)
+    ∙ ap (λ (o : TornDown). saidByTeardown t o .reply ∷ answersTo (saidByTeardown t o .device) (saidByTeardown t o .tables) cs) (tears-is c)
+ran-is (reports {v = v} {t = t} {r = r} {cs = cs} c k) = (λ i. saidOfReport (reports-is c i) ∷ ran-is k i)
+
+pub ran-binary64 : {v : Device} {t : Tables} {cs : List Call} {rs : List Answer} → Ran v t cs rs → Binary64 cs
+ran-binary64 done = tt
+ran-binary64 (arrives c k) = (arrives-fit c, ran-binary64 k)
+ran-binary64 (releases c a k) = (tt, ran-binary64 k)
+ran-binary64 (rebinds c k) = (tt, ran-binary64 k)
+ran-binary64 (tearsDown c k) = (tt, ran-binary64 k)
+ran-binary64 (reports c k) = (tt, ran-binary64 k)

@@ -1,0 +1,1 @@
+// The claim over every list of calls: see specs/Lib.antt.

@@ -1,0 +1,58 @@
+-- Each return of an arrival, over plain variables. What was judged does not overflow by what one arrival adds.
+use mathlib.Core.Path.{_≡_, sym, ap, _∙_}
+use mathlib.Core.Bool.{Bool}
+use mathlib.Core.List.{List}
+use Prim.Native.Nat.{ℕ, _+_, _<_, _^_}
+use native.Mathlib.Omega.{arith}
+use lib.Ieee.{Float}
+use lib.ListN.{length}
+use borrow.Author.Tests.{eq-eqb, ne-eqb}
+use Rattle.numbers.specs.Instant.{isInstantOf}
+use Rattle.numbers.specs.Laws.Limits.{counter-below}
+use Rattle.numbers.specs.Limits.{isLengthOf}
+use Rattle.accounts.specs.Laws.Small.{small-sends, small-stats}
+use Rattle.engine.specs.Decide.{decideUncheckedOf}
+use Rattle.engine.specs.Laws.Counts.{decide-counts}
+use Rattle.engine.specs.declared.answers.Arrived.{Arrived as Decided}
+use Rattle.queue.specs.Tables.{Tables, After, after}
+use Rattle.admission.specs.Follow.{followOf}
+use Rattle.admission.specs.Laws.Bounds.{follow-bounds}
+use Rattle.admission.specs.declared.admitted.Admitted.{Admitted}
+use Rattle.device.specs.Refusals.{callRefusal}
+use Rattle.device.specs.Arrive.{notArrived, settledOf, arriveRefusal, arriveOf}
+use Rattle.device.specs.declared.answers.Arrived.{Arrived}
+use Rattle.device.specs.declared.device.Device.{Device}
+use Rattle.device.proofs.RefusalSteps.{roomIn, room-is, Passed, no-refusal}
+
+-- what `settled` asks
+pub record Room (v : Device) (d : Decided) (a : Admitted) : Type 0 where
+  pub overflows : d .engine .stats .«dropped_overflow» + a .overflowed < 2 ^ 64
+  pub resets : v .accounts .«tcp_rst_kills» + a .resets < 2 ^ 64
+  pub torn : v .torn + a .torn < 2 ^ 64
+
+module _ (width : ℕ) (v : Device) (t : Tables) (now : Float) (bytes : List ℕ) (route : ℕ) (memory instant len : Bool) (number : ℕ)
+    (em : memory ≡ roomIn width (v .queue .cap) t) (ei : instant ≡ isInstantOf now) (el : len ≡ isLengthOf (length bytes)) (en : number ≡ callRefusal v memory instant len) where
+  asked : number ≡ arriveRefusal width v t now (length bytes)
+  asked = en ∙ (λ i. callRefusal v (room-is width (v .queue .cap) t memory em i) (ei i) (el i))
+
+  pub arrive-refused : (x : Arrived) → (number ≡ 0 → ⊥) → x ≡ notArrived v number → after x t ≡ arriveOf width v t now bytes route
+  unfolding arriveOf
+  arrive-refused x h ex = rw (← asked, ne-eqb number 0 h) (ap (λ (y : Arrived). after y t) ex)
+
+  module _ (h : number ≡ 0) where
+    passed : Passed v len
+    passed = no-refusal v memory instant len (sym en ∙ h)
+
+    module _ (d : Decided) (a : Admitted) (t′ : Tables) (ed : d ≡ decideUncheckedOf (v .engine) now (length bytes)) (ea : after a t′ ≡ followOf width (v .queue) t (d .decision) now route bytes) where
+      pub arrive-done : (x : Arrived) → x ≡ settledOf v d a → after x t′ ≡ arriveOf width v t now bytes route
+      unfolding arriveOf
+      arrive-done x ex = rw (← asked, eq-eqb number 0 h, ← ed, ← ea) (ap (λ (y : Arrived). after y t′) ex)
+
+      pub arrive-room : Room v d a
+      arrive-room =
+          let bounds = follow-bounds width (v .queue) t (d .decision) now route bytes in
+          record {
+            overflows = omega (arith, small-stats (v .engine .stats) (passed .stats) .«dropped_overflow», decide-counts (v .engine) now (length bytes) .overflow, ap (λ (x : Decided). x .engine .stats .«dropped_overflow») ed, ap (λ (x : After Admitted). x .gives .overflowed) ea, bounds .overflowed-within);
+            resets = omega (arith, small-sends (v .accounts) (passed .accounts) .«tcp_rst_kills», ap (λ (x : After Admitted). x .gives .resets) ea, bounds .resets-within);
+            torn = omega (arith, counter-below (v .torn) (passed .torn), ap (λ (x : After Admitted). x .gives .torn) ea, bounds .torn-within);
+          }

@@ -1,0 +1,5 @@
+pub mod RefusalSteps
+pub mod CreationSteps
+pub mod ReleaseSteps
+pub mod ArriveSteps
+pub mod OtherSteps

@@ -1,0 +1,88 @@
+-- Each return by its step. What is not refused has passed what the parts ask.
+use Rattle.device.proofs.ArriveSteps.{arrive-refused, arrive-done, arrive-room}
+use Rattle.device.proofs.RefusalSteps.{no-refusal}
+use mathlib.Core.Path.{sym, _∙_}
+use borrow.Author.Needs.{needs}
+use Rattle.device.proofs.device.Device.arrive.Statement.{statement}
+use Rattle.device.proofs.device.Device.arrive.Tie as tie
+
+has-memory-requires : tie.Need-has-memory-requires
+has-memory-requires c κs = search needs
+
+is-instant-requires : tie.Need-is-instant-requires
+is-instant-requires c κs = search needs
+
+is-length-requires : tie.Need-is-length-requires
+is-length-requires c κs = search needs
+
+call-refusal-requires : tie.Need-call-refusal-requires
+call-refusal-requires c κs = search needs
+
+not-arrived-requires : tie.Need-not-arrived-requires
+not-arrived-requires c κs = search needs
+
+returns : tie.Need-returns
+returns c = arrive-refused _ _ _ _ _ _ _ _ _ _ (c .before .before .before .before .before .has-memory .ensures) (c .before .before .before .before .is-instant .ensures) (c .before .before .before .is-length .ensures) (c .before .before .call-refusal .ensures) _ (c .before .if1 .taken) (c .not-arrived .ensures)
+
+decide-unchecked-requires : tie.Need-decide-unchecked-requires
+decide-unchecked-requires c κs =
+    let passed = no-refusal (c .before .before .before .before .before .before .before .before .before .before .before .before .before .before .before .before .before .args .self) _ _ _ (sym (c .before .before .call-refusal .ensures) ∙ c .before .if1 .left) in
+    (passed .stats, sym (c .before .before .before .is-length .ensures) ∙ passed .length-passes)
+
+follow-requires : tie.Need-follow-requires
+follow-requires c κs = search needs
+
+settled-requires : tie.Need-settled-requires
+settled-requires c κs =
+    let room = arrive-room _ _ _ _ _ _ _ _ _ _ (c .before .before .before .before .before .before .before .before .before .before .before .before .before .before .before .before .before .before .before .before .before .before .before .before .before .before .before .before .before .before .before .has-memory .ensures) (c .before .before .before .before .before .before .before .before .before .before .before .before .before .before .before .before .before .before .before .before .before .before .before .before .before .before .before .before .before .before .is-instant .ensures) (c .before .before .before .before .before .before .before .before .before .before .before .before .before .before .before .before .before .before .before .before .before .before .before .before .before .before .before .before .before .is-length .ensures) (c .before .before .before .before .before .before .before .before .before .before .before .before .before .before .before .before .before .before .before .before .before .before .before .before .before .before .before .before .call-refusal .ensures) (c .before .before .before .before .before .before .before .before .before .before .before .before .before .before .before .before .before .before .before .before .before .before .before .before .before .before .before .if1 .left) _ _ _ (c .before .before .before .before .before .before .before .before .before .before .before .before .before .before .before .before .before .before .before .before .before .before .before .before .before .decide-unchecked .ensures) (c .before .before .before .before .before .before .before .before .before .before .before .before .before .before .before .before .follow .ensures) in
+    (room .overflows, (room .resets, room .torn))
+
+same-length : tie.Need-same-length
+same-length c = c .before .before .before .before .before .before .before .before .before .before .before .before .before .before .before .before .before .follow .kept .1 .0
+
+same-length-2 : tie.Need-same-length-2
+same-length-2 c = c .before .before .before .before .before .before .before .before .before .before .before .before .before .before .before .before .before .follow .kept .1 .1 .1 .0
+
+same-length-3 : tie.Need-same-length-3
+same-length-3 c = c .before .before .before .before .before .before .before .before .before .before .before .before .before .before .before .before .before .follow .kept .1 .1 .1 .1 .0
+
+same-length-4 : tie.Need-same-length-4
+same-length-4 c = c .before .before .before .before .before .before .before .before .before .before .before .before .before .before .before .before .before .follow .kept .1 .1 .1 .1 .1 .0
+
+same-length-5 : tie.Need-same-length-5
+same-length-5 c = c .before .before .before .before .before .before .before .before .before .before .before .before .before .before .before .before .before .follow .kept .1 .1 .1 .1 .1 .1 .0
+
+same-length-6 : tie.Need-same-length-6
+same-length-6 c = c .before .before .before .before .before .before .before .before .before .before .before .before .before .before .before .before .before .follow .kept .1 .1 .1 .1 .1 .1 .1 .0
+
+same-length-7 : tie.Need-same-length-7
+same-length-7 c = c .before .before .before .before .before .before .before .before .before .before .before .before .before .before .before .before .before .follow .kept .1 .1 .1 .1 .1 .1 .1 .1 .0
+
+same-length-8 : tie.Need-same-length-8
+same-length-8 c = c .before .before .before .before .before .before .before .before .before .before .before .before .before .before .before .before .before .follow .kept .1 .1 .1 .1 .1 .1 .1 .1 .1 .0
+
+returns-2 : tie.Need-returns-2
+returns-2 c = arrive-done _ _ _ _ _ _ _ _ _ _ (c .before .before .before .before .before .before .before .before .before .before .before .before .before .before .before .before .before .before .before .before .before .before .before .before .before .before .before .before .before .before .before .before .has-memory .ensures) (c .before .before .before .before .before .before .before .before .before .before .before .before .before .before .before .before .before .before .before .before .before .before .before .before .before .before .before .before .before .before .before .is-instant .ensures) (c .before .before .before .before .before .before .before .before .before .before .before .before .before .before .before .before .before .before .before .before .before .before .before .before .before .before .before .before .before .before .is-length .ensures) (c .before .before .before .before .before .before .before .before .before .before .before .before .before .before .before .before .before .before .before .before .before .before .before .before .before .before .before .before .before .call-refusal .ensures) (c .before .before .before .before .before .before .before .before .before .before .before .before .before .before .before .before .before .before .before .before .before .before .before .before .before .before .before .before .if1 .left) _ _ _ (c .before .before .before .before .before .before .before .before .before .before .before .before .before .before .before .before .before .before .before .before .before .before .before .before .before .before .decide-unchecked .ensures) (c .before .before .before .before .before .before .before .before .before .before .before .before .before .before .before .before .before .follow .ensures) _ (c .settled .ensures)
+
+pub arrive-spec : {M : Type 1} → statement M
+arrive-spec =
+    tie.close
+    (tie.spec
+    has-memory-requires
+    is-instant-requires
+    is-length-requires
+    call-refusal-requires
+    not-arrived-requires
+    returns
+    decide-unchecked-requires
+    follow-requires
+    settled-requires
+    same-length
+    same-length-2
+    same-length-3
+    same-length-4
+    same-length-5
+    same-length-6
+    same-length-7
+    same-length-8
+    returns-2)

@@ -1,0 +1,7 @@
+-- What each call gives for any device, memory and arguments. Read Refusals (which number meets a call), Creation, Arrive, Release, Others (rebind, teardown,
+-- report). That these calls are those of the plain machine is shown in crates/claim.
+pub mod Refusals
+pub mod Creation
+pub mod Arrive
+pub mod Release
+pub mod Others
