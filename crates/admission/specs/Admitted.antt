@@ -19,7 +19,7 @@ admitted q i o t r n = record { queue = q; entered = i; overflowed = o; torn = t
 abbrev pub untouched : ImpairQueue → Admitted
 untouched q = admitted q 0 0 0 0 0
 
--- "each enters with the next seq, or the engine's overflow + 1"; what else meets it was altered: 26
+-- "each enters with the next seq, or the engine's overflow + 1"; any other refusal means that state or memory was altered: 26
 unfoldable pub talliedBy : PushAnswer → ImpairQueue → ℕ → ℕ → Admitted
 talliedBy (push.Entered slot seq) q i o = admitted q (i + 1) o 0 0 0
 talliedBy (push.Refused k) q i o = cond (eqb k refusedFull) (admitted q i (o + 1) 0 0 0) (admitted q i o 0 0 refusedKeeping)

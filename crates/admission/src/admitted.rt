@@ -34,7 +34,7 @@ fn counted(queue: ImpairQueue, entered: u64, overflowed: u64, number: u32) -> Ad
     }
 }
 
-// An arrival that changes nothing.
+// An arrival that leaves the queue as it is.
 pub(crate) fn untouched(queue: ImpairQueue) -> Admitted
     ensures { λ r. ⌜ r ≡ untouched queue ⌝ }
 {

@@ -12,28 +12,34 @@
 -- (Runs) is a list of calls for which these contracts hold, each handed the device and the tables that the last one left. An instant handed to `arrive` is a
 -- number of binary64, as every f64 is.
 use mathlib.Core.Path.{_≡_, refl, sym, ap, _∙_, subst}
-use mathlib.Core.List.{List, [], _∷_}
-use Prim.Native.Nat.{ℕ}
+use mathlib.Core.Bool.{true}
+use mathlib.Core.List.{List, []}
+use Prim.Native.Nat.{ℕ, _<_, _≤_}
 use lib.ListN.{length}
+use Rattle.numbers.specs.Limits.{maxCapacity}
+use Rattle.options.specs.Judgement.{isSettingsOf}
+use Rattle.options.specs.Laws.Judgement.{parse-sound}
 use Rattle.options.specs.Parse.{parseOf}
 use Rattle.options.specs.declared.config.Config.{Config}
 use Rattle.options.specs.declared.config.DirectionConfig.{DirectionConfig}
 use Rattle.options.specs.declared.outcome.Parsed.{Parsed}
 use Rattle.queue.specs.Refusals.{slotWidth}
 use Rattle.queue.specs.Tables.{Tables}
+use Rattle.queue_laws.specs.Laws.Keeps.{Long}
 use Rattle.machine.specs.Arrivals.{EachOwn}
 use Rattle.machine.specs.Bare.{bareCalls, bareAnswers}
-use Rattle.machine.specs.Calls.{Call, Answer, refused}
-use Rattle.machine.specs.Laws.Cases.{Refusal}
+use Rattle.machine.specs.Calls.{Call, Answer, refused, Refusal, In}
 use Rattle.machine.specs.Machine.{Machine, freshMachine}
 use Rattle.machine.specs.Steps.{answers, afterAll}
 use Rattle.machine.specs.Tally.{total, cameIn, accountedFor}
-use Rattle.machine.specs.Theorems.{In, count, each-own, alike, only-three-along}
+use Rattle.machine.specs.Theorems.{count, each-own, alike, only-three-along}
 use Rattle.device.specs.Creation.{createOf}
 use Rattle.device.specs.declared.answers.CreateAnswer.the-variants as create
 use Rattle.device.specs.declared.answers.Created.{Created}
-use Rattle.claim.specs.Runs.{Parses, Creates, Ran, parses-is, creates-is, ran-is, ran-binary64}
-use Rattle.claim.specs.Replies.{answersTo}
+use Rattle.claim.specs.Runs.{Parses, Creates, Ran}
+use Rattle.claim.specs.Laws.Answers.{answersTo}
+use Rattle.claim.specs.Laws.Creation.{create-made}
+use Rattle.claim.specs.Laws.Ran.{parses-is, creates-is, ran-is, ran-binary64}
 use Rattle.claim.specs.Laws.Runs.{created-agrees}
 
 -- what is claimed of the answers rs to the calls cs, with the machine that is fed the same calls
@@ -89,3 +95,28 @@ pub claim : {text : List ℕ} {p : Parsed} → Parses text p
     → Claimed (machineOf text d salt cap) cs rs
 claim parses d {salt} {cap} c made cs rs ran =
     subst (λ (p : Parsed). Claimed (freshMachine (settingsOf d (p .config)) (p .config .seed) salt cap) cs rs) (parses-is parses) (claim-of-settings c made cs rs ran)
+
+-- two runs of one text, direction, salt and capacity, each over its own memory: calls that are alike in kinds, order, times and lengths have answers that are
+-- alike but for the bytes and routes handed out
+pub two-runs : {text : List ℕ} {p : Parsed} → Parses text p
+    → (d : Direction) {salt cap : ℕ} {t u : Tables} {r q : Created}
+    → Creates (settingsOf d (p .config)) (p .config .seed) salt cap t r → r .answer ≡ create.Created
+    → Creates (settingsOf d (p .config)) (p .config .seed) salt cap u q → q .answer ≡ create.Created
+    → (cs ds : List Call) (rs qs : List Answer) → Ran (r .device) t cs rs → Ran (q .device) u ds qs
+    → bareCalls cs ≡ bareCalls ds → bareAnswers rs ≡ bareAnswers qs
+two-runs parses d c made c′ made′ cs ds rs qs ran ran′ e =
+    claim parses d c made cs rs ran .alike-answers ds e
+    ∙ ap bareAnswers (sym (claim parses d c′ made′ ds qs ran′ .same))
+
+-- whatever the text, a creation with a capacity from 1 to 1,048,576 and memory that is long enough for it is not refused
+pub text-creates : {text : List ℕ} {p : Parsed} → Parses text p
+    → (d : Direction) {salt cap : ℕ} {t : Tables} {r : Created}
+    → 0 < cap → cap ≤ maxCapacity → Long slotWidth cap t
+    → Creates (settingsOf d (p .config)) (p .config .seed) salt cap t r → r .answer ≡ create.Created
+text-creates {text} {p} parses d {salt} {cap} {t} low high long c =
+    ap (λ (x : Created). x .answer) (creates-is c)
+    ∙ create-made (settingsOf d (p .config)) (p .config .seed) salt cap t (settings-judged d) low high long
+  where
+    settings-judged : (d : Direction) → isSettingsOf (settingsOf d (p .config)) ≡ true
+    settings-judged c2s = subst (λ (x : Parsed). isSettingsOf (x .config .c2s) ≡ true) (sym (parses-is parses)) (parse-sound text .c2s-judged)
+    settings-judged s2c = subst (λ (x : Parsed). isSettingsOf (x .config .s2c) ≡ true) (sym (parses-is parses)) (parse-sound text .s2c-judged)

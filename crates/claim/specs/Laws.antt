@@ -1,5 +1,8 @@
--- In order: Kept (the relation), Short (lists of short copies), Agree (a call that agrees with a step; refusals and drains), Creation, Counts (what a device counts
--- at once), Copies (the copies of one packet), Arrive, Release, Others (each call keeps the relation and answers as the machine does), Runs (every list of calls).
+-- In order: Answers (what each call says and leaves, by the definitions), Ran (a run's answers are those), Kept (the relation of device and machine), Short (lists
+-- of short copies), Agree (a call that agrees with a step; refusals and drains), Creation, Counts (what a device counts at once), Copies (the copies of one packet),
+-- Arrive, Release, Others (each call keeps the relation and answers as the machine does), Runs (every list of calls).
+pub mod Answers
+pub mod Ran
 pub mod Kept
 pub mod Short
 pub mod Agree

@@ -1,6 +1,6 @@
 -- Runs of the program: each step is a call of a function of crates/device, answered and its tables left as the function's own contract says (`Learnt`), and begins
 -- with what the last one left.
-use mathlib.Core.Path.{_≡_, refl, sym, ap, _∙_}
+use mathlib.Core.Path.{_≡_}
 use mathlib.Core.List.{List, [], _∷_}
 use Prim.Native.Nat.{ℕ}
 use lib.Dec.{T}
@@ -10,21 +10,14 @@ use contract.Lifetimes
 use borrow.Fn.World
 use borrow.Fn.Kinds as Kinds'
 use denote.Triple.Clauses
-use Rattle.options.specs.Parse.{parseOf}
 use Rattle.options.specs.declared.config.DirectionConfig.{DirectionConfig}
 use Rattle.options.specs.declared.outcome.Parsed.{Parsed}
-use Rattle.queue.specs.Tables.{Tables, tables, After, after}
-use Rattle.queue.specs.Refusals.{slotWidth}
-use Rattle.queue.specs.Calls.{payloadOf}
+use Rattle.queue.specs.Tables.{Tables, tables}
 use Rattle.queue.specs.declared.answers.Queued.{Queued}
 use Rattle.queue.specs.declared.answers.ReleaseAnswer.{ReleaseAnswer}
 use Rattle.queue.specs.declared.answers.ReleaseAnswer.the-variants as left
 use Rattle.queue_laws.specs.Held.{copy}
 use Rattle.machine.specs.Calls.{Call, arrive as arriveCall, release as releaseCall, rebind as rebindCall, teardown as teardownCall, report as reportCall, Answer, released, noneDue, refused}
-use Rattle.device.specs.Creation.{createOf}
-use Rattle.device.specs.Arrive.{arriveOf}
-use Rattle.device.specs.Release.{releaseOf}
-use Rattle.device.specs.Others.{rebindOf, teardownOf, reportOf}
 use Rattle.device.specs.declared.answers.Arrived.{Arrived}
 use Rattle.device.specs.declared.answers.Created.{Created}
 use Rattle.device.specs.declared.answers.Rebound.{Rebound}
@@ -56,7 +49,7 @@ use Rattle.device.proofs.payload.Kinds as payload-kinds
 use Rattle.options.proofs.parse_config as parse-fn
 use Rattle.options.proofs.parse_config.Reads as parse
 use Rattle.options.proofs.parse_config.Kinds as parse-kinds
-use Rattle.claim.specs.Replies.{saidOfArrive, saidOfRelease, saidOfRebind, saidOfTeardown, saidOfReport, saidByArrive, saidByRelease, saidByRebind, saidByTeardown, answerTo, answersTo, Binary64}
+use Rattle.claim.specs.Replies.{saidOfArrive, saidOfRebind, saidOfTeardown, saidOfReport}
 
 -- ---- the tables that a call begins with, and those that it leaves: what is lent to be read stays
 
@@ -177,62 +170,3 @@ pub data Ran : Device → Tables → List Call → List Answer → Type 1 where
   reports : {v : Device} {t : Tables} {r : Reported} {cs : List Call} {rs : List Answer}
       → Reports v r → Ran v t cs rs
       → Ran v t (reportCall ∷ cs) (saidOfReport r ∷ rs)
-
--- ---- what each call returns is what its definition gives
-
-pub parses-is : {text : List ℕ} {r : Parsed} → Parses text r → r ≡ parseOf text
-parses-is (Parses.called κs a r s et h) = h ∙ ap parseOf et
-
-pub creates-is : {cfg : DirectionConfig} {seed salt cap : ℕ} {t : Tables} {r : Created} → Creates cfg seed salt cap t r → r ≡ createOf slotWidth cfg seed salt cap t
-creates-is (Creates.called κs a r s ec es el en et h) = h ∙ (λ i. createOf slotWidth (ec i) (es i) (el i) (en i) (et i))
-
-arrives-is : {v : Device} {t : Tables} {instant : Float} {bytes : List ℕ} {route : ℕ} {r : Arrived} {t′ : Tables} → Arrives v t instant bytes route r t′ → after r t′ ≡ arriveOf slotWidth v t instant bytes route
-arrives-is (Arrives.called κs a r s fit ev et ei eb er h) = h ∙ (λ i. arriveOf slotWidth (ev i) (et i) (ei i) (eb i) (er i))
-
-arrives-fit : {v : Device} {t : Tables} {instant : Float} {bytes : List ℕ} {route : ℕ} {r : Arrived} {t′ : Tables} → Arrives v t instant bytes route r t′ → T (fits binary64 instant)
-arrives-fit (Arrives.called κs a r s fit ev et ei eb er h) = fit
-
-releases-is : {v : Device} {t : Tables} {instant : Float} {r : Released} {t′ : Tables} → Releases v t instant r t′ → after r t′ ≡ releaseOf slotWidth v t instant
-releases-is (Releases.called κs a r s ev et ei h) = h ∙ (λ i. releaseOf slotWidth (ev i) (et i) (ei i))
-
-rebinds-is : {v : Device} {instant : Float} {r : Rebound} → Rebinds v instant r → r ≡ rebindOf v instant
-rebinds-is (Rebinds.called κs a r s ev ei h) = h ∙ (λ i. rebindOf (ev i) (ei i))
-
-tears-is : {v : Device} {r : TornDown} → TearsDown v r → r ≡ teardownOf v
-tears-is (TearsDown.called κs a r s ev h) = h ∙ ap teardownOf ev
-
-reports-is : {v : Device} {r : Reported} → Reports v r → r ≡ reportOf v
-reports-is (Reports.called κs a r s ev h) = h ∙ ap reportOf ev
-
-reads-is : {store : List ℕ} {slot len : ℕ} {bytes : List ℕ} → Reads store slot len bytes → bytes ≡ payloadOf slotWidth store slot len
-reads-is (Reads.called κs a r s es et el h) = h ∙ (λ i. payloadOf slotWidth (es i) (et i) (el i))
-
-says-is : {store : List ℕ} {a : ReleaseAnswer} {r : Answer} → Says store a r → r ≡ saidOfRelease slotWidth store a
-says-is (hands-out {c} h) = ap (λ (b : List ℕ). released (copy (c .«due_ms») (c .seq) (c .«arrival_ms») (c .route) (c .«copy_id») (c .length) b)) (reads-is h)
-says-is none = refl
-says-is refuses = refl
-
-pub ran-is : {v : Device} {t : Tables} {cs : List Call} {rs : List Answer} → Ran v t cs rs → rs ≡ answersTo v t cs
-unfolding answersTo answerTo
-ran-is done = refl
-ran-is (arrives {r = r} {cs = cs} c k) =
-    ap (λ (l : List Answer). saidOfArrive (r .answer) ∷ l) (ran-is k)
-    ∙ ap (λ (o : After Arrived). saidByArrive o .reply ∷ answersTo (saidByArrive o .device) (saidByArrive o .tables) cs) (arrives-is c)
-ran-is (releases {r = r} {cs = cs} c a k) =
-    (λ i. says-is a i ∷ ran-is k i)
-    ∙ ap (λ (o : After Released). saidByRelease o .reply ∷ answersTo (saidByRelease o .device) (saidByRelease o .tables) cs) (releases-is c)
-ran-is (rebinds {t = t} {r = r} {cs = cs} c k) =
-    ap (λ (l : List Answer). saidOfRebind (r .answer) ∷ l) (ran-is k)
-    ∙ ap (λ (o : Rebound). saidByRebind t o .reply ∷ answersTo (saidByRebind t o .device) (saidByRebind t o .tables) cs) (rebinds-is c)
-ran-is (tearsDown {t = t} {r = r} {cs = cs} c k) =
-    ap (λ (l : List Answer). saidOfTeardown (r .answer) ∷ l) (ran-is k)
-    ∙ ap (λ (o : TornDown). saidByTeardown t o .reply ∷ answersTo (saidByTeardown t o .device) (saidByTeardown t o .tables) cs) (tears-is c)
-ran-is (reports {v = v} {t = t} {r = r} {cs = cs} c k) = (λ i. saidOfReport (reports-is c i) ∷ ran-is k i)
-
-pub ran-binary64 : {v : Device} {t : Tables} {cs : List Call} {rs : List Answer} → Ran v t cs rs → Binary64 cs
-ran-binary64 done = tt
-ran-binary64 (arrives c k) = (arrives-fit c, ran-binary64 k)
-ran-binary64 (releases c a k) = (tt, ran-binary64 k)
-ran-binary64 (rebinds c k) = (tt, ran-binary64 k)
-ran-binary64 (tearsDown c k) = (tt, ran-binary64 k)
-ran-binary64 (reports c k) = (tt, ran-binary64 k)

@@ -1,4 +1,4 @@
--- "create(settings, seed, salt, capacity, tables)": 29, 24, 23; "a refused creation gives the fresh device of `DirectionConfig::default`, generator seed 0,
+-- Creation from settings, seed, salt, capacity and lent memory: 29, 24, 23; "a refused creation gives the fresh device of `DirectionConfig::default`, generator seed 0,
 -- capacity 1". The lent memory is only looked at.
 use Prim.Native.Nat.{ℕ}
 use Rattle.draws.specs.Mix.{directionSeedOf}

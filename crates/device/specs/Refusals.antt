@@ -1,5 +1,5 @@
--- "Order: .. calls 23, 29, 21, 22, 27, 25, 28, those that apply". 29 is judged at creation; what would meet 27 or 29 later was altered and gives 26; 28 is counted
--- instead. 26 is found where the parts are used, after these.
+-- "Order: .. calls 23, 29, 21, 22, 27, 25, 28, those that apply". 29 is judged at creation; what 27 or 29 would refuse later is altered state and gives 26;
+-- 28 is counted instead. 26 is found where the parts are used, after these.
 use mathlib.Core.Bool.{Bool, cond, not}
 use Prim.Native.Nat.{ℕ}
 use Rattle.numbers.specs.Refusals.{refusedMemory, refusedInstant, refusedLength, refusedCounter}

@@ -1,6 +1,5 @@
 -- "release(now)": 23, 21, 25; then the queue's least copy that is due leaves, "and is accounted with latency now − arrival".
 use mathlib.Core.Bool.{true, cond}
-use mathlib.Core.List.{List}
 use Prim.Native.Nat.{ℕ}
 use lib.Dec.{eqb}
 use lib.Ieee.{Float, binary64, sub}
@@ -33,7 +32,7 @@ withAccounts v a = record { engine = v .engine; queue = v .queue; accounts = a; 
 
 -- a length that the accounts refuse was altered: 26
 unfoldable pub accountedBy : Outcome → Device → Queued → Released
-accountedBy outcome.Done v c = notReleased v (answer.Released c)
+accountedBy outcome.Done v c = record { device = v; answer = answer.Released c }
 accountedBy (outcome.Refused k) v c = notReleased v (answer.Refused refusedKeeping)
 
 unfoldable pub accountedOf : Device → Queued → Float → Released

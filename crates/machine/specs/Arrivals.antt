@@ -5,7 +5,6 @@ use mathlib.Core.List.{List, [], _∷_, _++_}
 use Prim.Native.Nat.{ℕ, zero, suc}
 use lib.Ieee.{Float}
 use lib.ListN.{length, replicate}
-use Rattle.queue_laws.specs.Held.{Copy}
 use Rattle.machine.specs.Calls.{Call, arrive, release, rebind, teardown, report, Answer, decided, released, noneDue, rebound, toreDown, reported, refused}
 
 -- what an arrive call brought

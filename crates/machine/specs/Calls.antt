@@ -1,8 +1,11 @@
 -- The calls of a host, and what the machine answers.
+use mathlib.Core.Path.{_≡_}
+use mathlib.Core.Logic.{_⊎_}
 use mathlib.Core.Bool.{Bool}
-use mathlib.Core.List.{List}
+use mathlib.Core.List.{List, [], _∷_}
 use Prim.Native.Nat.{ℕ}
 use lib.Ieee.{Float}
+use Rattle.numbers.specs.Refusals.{refusedInstant, refusedLength, refusedCounter}
 use Rattle.accounts.specs.declared.stats.DirectionStats.{DirectionStats}
 use Rattle.steps.specs.declared.decision.Decision.{Decision}
 use Rattle.queue_laws.specs.Held.{Copy}
@@ -29,3 +32,12 @@ pub data Answer : Type 0 where
   reported : DirectionStats → ℕ → ℕ → Answer
   -- the number of the refusal
   refused : ℕ → Answer
+
+-- "by 21, 22 and 25 only"
+abbrev pub Refusal : ℕ → Type 0
+Refusal k = (k ≡ refusedInstant) ⊎ (k ≡ refusedLength) ⊎ (k ≡ refusedCounter)
+
+-- an answer stands in a list
+abbrev pub In : Answer → List Answer → Type 0
+In a [] = ⊥
+In a (b ∷ l) = (a ≡ b) ⊎ In a l

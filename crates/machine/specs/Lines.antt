@@ -2,9 +2,8 @@
 use mathlib.Core.Path.{_≡_, refl}
 use mathlib.Core.Bool.{true}
 use mathlib.Core.List.{List, [], _∷_}
-use Prim.Native.Nat.{ℕ}
 use lib.ListN.{length, replicate}
-use lib.Ieee.{Float, add, sub, mul, div, neg, lt, le, isNan, ofInt}
+use lib.Ieee.{add, sub, mul, div, neg, lt, le, isNan, ofInt}
 use Rattle.numbers.specs.Extremes.{chosenOf}
 use Rattle.numbers.specs.Instant.{isInstantOf}
 use Rattle.numbers.specs.Limits.{isLengthOf, isCounterOf}
@@ -38,7 +37,7 @@ use Rattle.engine.specs.Decide.{afterOf, decideUncheckedOf}
 use Rattle.engine.specs.Engine.{nextRebindOf, freshOf, stateOf, gateAtOf}
 use Rattle.engine.specs.Lines.{ArrivalLines, arrival-lines}
 use Rattle.machine.specs.Machine.{Machine, freshMachine, inRange}
-use Rattle.machine.specs.Calls.{Call, arrive, Answer, decided}
+use Rattle.machine.specs.Calls.{Call, arrive, decided}
 use Rattle.machine.specs.Steps.{unless, enterCopy, enterCopies, follow, arriveStep, step, answers, afterAll}
 use Rattle.machine.specs.Tally.{tally, total}
 

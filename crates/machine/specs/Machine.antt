@@ -28,6 +28,6 @@ machine e c h n a t = record { engine = e; cap = c; held = h; nextSeq = n; accou
 unfoldable pub freshMachine : DirectionConfig → ℕ → ℕ → ℕ → Machine
 freshMachine cfg seed salt cap = machine (freshOf cfg (directionSeedOf seed salt)) cap [] 0 noSends 0
 
--- whether refusal 25 lets pass: no "counter (torn too) or next seq handed in is 2^60 or more"
+-- whether refusal 25 lets a call through: no "counter (torn too) or next seq handed in is 2^60 or more"
 unfoldable pub inRange : ArrivalEngine → SendAccountant → ℕ → ℕ → Bool
 inRange e a torn next = countersPass e && areCounters (accountantCounters a) && isCounterOf torn && isCounterOf next

@@ -8,23 +8,17 @@ use lib.ListN.{length}
 use Rattle.accounts.specs.declared.stats.DirectionStats.{DirectionStats}
 use Rattle.options.specs.declared.config.DirectionConfig.{DirectionConfig}
 use Rattle.machine.specs.Machine.{Machine, freshMachine}
-use Rattle.machine.specs.Calls.{Call, report, Answer, reported, refused}
+use Rattle.machine.specs.Calls.{Call, report, Refusal, In, reported, refused}
 use Rattle.machine.specs.Steps.{step, answers, afterAll}
 use Rattle.machine.specs.Tally.{total, cameIn, accountedFor}
 use Rattle.machine.specs.Arrivals.{EachOwn}
 use Rattle.machine.specs.Bare.{bareCalls, bareAnswers}
-use Rattle.machine.specs.Laws.Cases.{Refusal}
 use Rattle.machine.specs.Laws.Held.{fresh-order, fresh-empty}
 use Rattle.machine.specs.Laws.Count.{all-balance}
 use Rattle.machine.specs.Laws.Own.{fresh-known, all-own}
 use Rattle.machine.specs.Laws.Bare.{bare-answers, fresh-bare}
 use Rattle.machine.specs.Laws.Refused.{step-refuses, report-changes-nothing}
 use Rattle.machine.specs.Laws.Reports.{Says, fresh-counts, step-says}
-
--- an answer stands in a list
-abbrev pub In : Answer → List Answer → Type 0
-In a [] = ⊥
-In a (b ∷ l) = (a ≡ b) ⊎ In a l
 
 -- what came in, received and duplicates, is random, GE, MTU, blackout, reset, overflow, released, torn and held
 pub count : (cfg : DirectionConfig) (seed salt cap : ℕ) (cs : List Call)

@@ -2,9 +2,10 @@
 use mathlib.Core.Path.{_≡_, refl}
 use mathlib.Core.Bool.{Bool, true, false}
 use mathlib.Core.List.{[]}
-use Prim.Native.Nat.{ℕ}
+use Prim.Native.Nat.{ℕ, _<_, _≤_}
 use native.Mathlib.Omega.{arith}
 use Rattle.draws.specs.Mix.{directionSeedOf}
+use Rattle.numbers.specs.Limits.{maxCapacity}
 use Rattle.numbers.specs.Refusals.{refusedSettings}
 use Rattle.options.specs.Judgement.{isSettingsOf}
 use Rattle.options.specs.declared.config.DirectionConfig.{DirectionConfig}
@@ -18,8 +19,8 @@ use Rattle.queue.specs.declared.answers.CreateAnswer.{CreateAnswer as QueueAnsw
 use Rattle.queue.specs.declared.answers.CreateAnswer.the-variants as made
 use Rattle.queue.specs.declared.queue.ImpairQueue.{ImpairQueue}
 use Rattle.queue_laws.specs.Held.{plain}
-use Rattle.queue_laws.specs.Laws.Creation.{create-keeps}
-use Rattle.queue_laws.specs.Laws.Keeps.{Keeps}
+use Rattle.queue_laws.specs.Laws.Creation.{create-keeps, create-made as queue-made}
+use Rattle.queue_laws.specs.Laws.Keeps.{Keeps, Long}
 use Rattle.machine.specs.Machine.{freshMachine}
 use Rattle.device.specs.Creation.{notCreated, queuedBy, createdBy, createOf}
 use Rattle.device.specs.declared.answers.CreateAnswer.the-variants as answer
@@ -49,3 +50,8 @@ module _ (cfg : DirectionConfig) (seed salt cap : ℕ) (t : Tables) where
       go : (b : Bool) → isSettingsOf cfg ≡ b → Fresh (createOf slotWidth cfg seed salt cap t)
       go true e = rw e (queued e (queueCreateOf slotWidth cap t .answer) (queueCreateOf slotWidth cap t .queue) (create-keeps slotWidth cap t))
       go false e = rw e (not-created refusedSettings)
+
+  -- a creation with settings that 29 lets through, a capacity in range and memory that is long enough is not refused
+  pub create-made : isSettingsOf cfg ≡ true → 0 < cap → cap ≤ maxCapacity → Long slotWidth cap t → createOf slotWidth cfg seed salt cap t .answer ≡ answer.Created
+  unfolding createOf createdBy newOf queuedBy
+  create-made settings low high long = rw (settings, queue-made slotWidth cap t low high long)

@@ -15,12 +15,8 @@ use Rattle.engine.specs.Changes.{reboundOf}
 use Rattle.engine.specs.Decide.{decideUncheckedOf}
 use Rattle.queue_laws.specs.Held.{Copy, least}
 use Rattle.machine.specs.Machine.{Machine, inRange}
-use Rattle.machine.specs.Calls.{Call, arrive, release, rebind, teardown, report, released, noneDue, rebound, toreDown, reported, refused}
+use Rattle.machine.specs.Calls.{Call, arrive, release, rebind, teardown, report, Refusal, released, noneDue, rebound, toreDown, reported, refused}
 use Rattle.machine.specs.Steps.{Step, stepTo, unless, withEngine, Entry, entry, enterCopy, enterCopies, tear, follow, arriveStep, leave, leaveIfDue, releaseLeast, releaseStep, rebindStep, teardownStep, reportStep, step}
-
--- 21, 22 or 25
-abbrev pub Refusal : ℕ → Type 0
-Refusal k = (k ≡ refusedInstant) ⊎ (k ≡ refusedLength) ⊎ (k ≡ refusedCounter)
 
 -- the steps of each call: it may be refused, and a release or a rebind may find nothing to do
 pub data Does (m : Machine) : Call → Step → Type 0 where

@@ -6,9 +6,9 @@ use lib.Ieee.{Float}
 use Rattle.steps.specs.declared.decision.Decision.{Decision}
 use Rattle.steps.specs.declared.decision.Decision.the-variants.{DropRandom, DropGe, DropMtu, DropBlackout, DropKillHold, Enqueue, KillRst}
 use Rattle.machine.specs.Machine.{Machine}
-use Rattle.machine.specs.Calls.{Call, report, Answer, decided, released, noneDue, rebound, toreDown, reported, refused}
+use Rattle.machine.specs.Calls.{Call, report, Refusal, Answer, decided, released, noneDue, rebound, toreDown, reported, refused}
 use Rattle.machine.specs.Steps.{Step, follow, step}
-use Rattle.machine.specs.Laws.Cases.{Refusal, Does, refuses, decides, releases, finds-none, rebinds, keeps, tears, reports, step-does}
+use Rattle.machine.specs.Laws.Cases.{Does, refuses, decides, releases, finds-none, rebinds, keeps, tears, reports, step-does}
 
 -- an answer that is no refusal
 abbrev Taken : Answer → Type 0

@@ -1,0 +1,86 @@
+-- What each call of a run returns is what its definition gives, so a run's answers are those of the definitions.
+use mathlib.Core.Path.{_≡_, refl, ap, _∙_}
+use mathlib.Core.List.{List, _∷_}
+use Prim.Native.Nat.{ℕ}
+use lib.Dec.{T}
+use lib.Ieee.{Float, binary64, fits}
+use Rattle.options.specs.Parse.{parseOf}
+use Rattle.options.specs.declared.config.DirectionConfig.{DirectionConfig}
+use Rattle.options.specs.declared.outcome.Parsed.{Parsed}
+use Rattle.queue.specs.Tables.{Tables, After, after}
+use Rattle.queue.specs.Refusals.{slotWidth}
+use Rattle.queue.specs.Calls.{payloadOf}
+use Rattle.queue.specs.declared.answers.ReleaseAnswer.{ReleaseAnswer}
+use Rattle.queue_laws.specs.Held.{copy}
+use Rattle.machine.specs.Calls.{Call, Answer, released}
+use Rattle.device.specs.Creation.{createOf}
+use Rattle.device.specs.Arrive.{arriveOf}
+use Rattle.device.specs.Release.{releaseOf}
+use Rattle.device.specs.Others.{rebindOf, teardownOf, reportOf}
+use Rattle.device.specs.declared.answers.Arrived.{Arrived}
+use Rattle.device.specs.declared.answers.Created.{Created}
+use Rattle.device.specs.declared.answers.Rebound.{Rebound}
+use Rattle.device.specs.declared.answers.Released.{Released}
+use Rattle.device.specs.declared.answers.Reported.{Reported}
+use Rattle.device.specs.declared.answers.TornDown.{TornDown}
+use Rattle.device.specs.declared.device.Device.{Device}
+use Rattle.claim.specs.Replies.{saidOfArrive, saidOfRelease, saidOfRebind, saidOfTeardown, saidOfReport}
+use Rattle.claim.specs.Runs.{Parses, Creates, Arrives, Releases, Rebinds, TearsDown, Reports, Reads, Says, hands-out, none, refuses, Ran, done, arrives, releases, rebinds, tearsDown, reports}
+use Rattle.claim.specs.Laws.Answers.{saidByArrive, saidByRelease, saidByRebind, saidByTeardown, answerTo, answersTo, Binary64}
+
+pub parses-is : {text : List ℕ} {r : Parsed} → Parses text r → r ≡ parseOf text
+parses-is (Parses.called κs a r s et h) = h ∙ ap parseOf et
+
+pub creates-is : {cfg : DirectionConfig} {seed salt cap : ℕ} {t : Tables} {r : Created} → Creates cfg seed salt cap t r → r ≡ createOf slotWidth cfg seed salt cap t
+creates-is (Creates.called κs a r s ec es el en et h) = h ∙ (λ i. createOf slotWidth (ec i) (es i) (el i) (en i) (et i))
+
+arrives-is : {v : Device} {t : Tables} {instant : Float} {bytes : List ℕ} {route : ℕ} {r : Arrived} {t′ : Tables} → Arrives v t instant bytes route r t′ → after r t′ ≡ arriveOf slotWidth v t instant bytes route
+arrives-is (Arrives.called κs a r s fit ev et ei eb er h) = h ∙ (λ i. arriveOf slotWidth (ev i) (et i) (ei i) (eb i) (er i))
+
+arrives-fit : {v : Device} {t : Tables} {instant : Float} {bytes : List ℕ} {route : ℕ} {r : Arrived} {t′ : Tables} → Arrives v t instant bytes route r t′ → T (fits binary64 instant)
+arrives-fit (Arrives.called κs a r s fit ev et ei eb er h) = fit
+
+releases-is : {v : Device} {t : Tables} {instant : Float} {r : Released} {t′ : Tables} → Releases v t instant r t′ → after r t′ ≡ releaseOf slotWidth v t instant
+releases-is (Releases.called κs a r s ev et ei h) = h ∙ (λ i. releaseOf slotWidth (ev i) (et i) (ei i))
+
+rebinds-is : {v : Device} {instant : Float} {r : Rebound} → Rebinds v instant r → r ≡ rebindOf v instant
+rebinds-is (Rebinds.called κs a r s ev ei h) = h ∙ (λ i. rebindOf (ev i) (ei i))
+
+tears-is : {v : Device} {r : TornDown} → TearsDown v r → r ≡ teardownOf v
+tears-is (TearsDown.called κs a r s ev h) = h ∙ ap teardownOf ev
+
+reports-is : {v : Device} {r : Reported} → Reports v r → r ≡ reportOf v
+reports-is (Reports.called κs a r s ev h) = h ∙ ap reportOf ev
+
+reads-is : {store : List ℕ} {slot len : ℕ} {bytes : List ℕ} → Reads store slot len bytes → bytes ≡ payloadOf slotWidth store slot len
+reads-is (Reads.called κs a r s es et el h) = h ∙ (λ i. payloadOf slotWidth (es i) (et i) (el i))
+
+says-is : {store : List ℕ} {a : ReleaseAnswer} {r : Answer} → Says store a r → r ≡ saidOfRelease slotWidth store a
+says-is (hands-out {c} h) = ap (λ (b : List ℕ). released (copy (c .«due_ms») (c .seq) (c .«arrival_ms») (c .route) (c .«copy_id») (c .length) b)) (reads-is h)
+says-is none = refl
+says-is refuses = refl
+
+pub ran-is : {v : Device} {t : Tables} {cs : List Call} {rs : List Answer} → Ran v t cs rs → rs ≡ answersTo v t cs
+unfolding answersTo answerTo
+ran-is done = refl
+ran-is (arrives {r = r} {cs = cs} c k) =
+    ap (λ (l : List Answer). saidOfArrive (r .answer) ∷ l) (ran-is k)
+    ∙ ap (λ (o : After Arrived). saidByArrive o .reply ∷ answersTo (saidByArrive o .device) (saidByArrive o .tables) cs) (arrives-is c)
+ran-is (releases {r = r} {cs = cs} c a k) =
+    (λ i. says-is a i ∷ ran-is k i)
+    ∙ ap (λ (o : After Released). saidByRelease o .reply ∷ answersTo (saidByRelease o .device) (saidByRelease o .tables) cs) (releases-is c)
+ran-is (rebinds {t = t} {r = r} {cs = cs} c k) =
+    ap (λ (l : List Answer). saidOfRebind (r .answer) ∷ l) (ran-is k)
+    ∙ ap (λ (o : Rebound). saidByRebind t o .reply ∷ answersTo (saidByRebind t o .device) (saidByRebind t o .tables) cs) (rebinds-is c)
+ran-is (tearsDown {t = t} {r = r} {cs = cs} c k) =
+    ap (λ (l : List Answer). saidOfTeardown (r .answer) ∷ l) (ran-is k)
+    ∙ ap (λ (o : TornDown). saidByTeardown t o .reply ∷ answersTo (saidByTeardown t o .device) (saidByTeardown t o .tables) cs) (tears-is c)
+ran-is (reports {v = v} {t = t} {r = r} {cs = cs} c k) = (λ i. saidOfReport (reports-is c i) ∷ ran-is k i)
+
+pub ran-binary64 : {v : Device} {t : Tables} {cs : List Call} {rs : List Answer} → Ran v t cs rs → Binary64 cs
+ran-binary64 done = tt
+ran-binary64 (arrives c k) = (arrives-fit c, ran-binary64 k)
+ran-binary64 (releases c a k) = (tt, ran-binary64 k)
+ran-binary64 (rebinds c k) = (tt, ran-binary64 k)
+ran-binary64 (tearsDown c k) = (tt, ran-binary64 k)
+ran-binary64 (reports c k) = (tt, ran-binary64 k)
