@@ -6,6 +6,7 @@
 --   * each released copy has the instant, the bytes and the route of the arrive call in which a copy entered with its seq;
 --   * another list of calls that is alike in kinds, order, times and lengths has answers that are alike but for the bytes and routes handed out;
 --   * received + duplicates = random + GE + MTU + blackout + reset + overflow + released + torn + held, counted from the answers;
+--   * each report says what is counted from the answers before it, and its own numbers come out;
 --   * no call is refused but by 21, 22 or 25.
 --
 -- It rests on the contracts of `parse_config`, `create`, `arrive`, `release`, `payload`, `rebind`, `teardown` and `report`, each proved of its function: a run
@@ -31,8 +32,8 @@ use Rattle.machine.specs.Bare.{bareCalls, bareAnswers}
 use Rattle.machine.specs.Calls.{Call, Answer, refused, Refusal, In}
 use Rattle.machine.specs.Machine.{Machine, freshMachine}
 use Rattle.machine.specs.Steps.{answers, afterAll}
-use Rattle.machine.specs.Tally.{total, cameIn, accountedFor}
-use Rattle.machine.specs.Theorems.{count, each-own, alike, only-three-along}
+use Rattle.machine.specs.Tally.{total, cameIn, accountedFor, nothing, EachTells}
+use Rattle.machine.specs.Theorems.{count, each-own, alike, each-report, only-three-along}
 use Rattle.device.specs.Creation.{createOf}
 use Rattle.device.specs.declared.answers.CreateAnswer.the-variants as create
 use Rattle.device.specs.declared.answers.Created.{Created}
@@ -48,6 +49,7 @@ pub record Claimed (m : Machine) (cs : List Call) (rs : List Answer) : Type 0 wh
   pub own : EachOwn [] cs rs
   pub alike-answers : (ds : List Call) → bareCalls cs ≡ bareCalls ds → bareAnswers rs ≡ bareAnswers (answers m ds)
   pub counted : cameIn (total rs) ≡ accountedFor (total rs) (length (afterAll m cs .held))
+  pub reports : EachTells nothing rs
   pub refusals : (k : ℕ) → In (refused k) rs → Refusal k
 
 -- of any settings that a host names
@@ -62,6 +64,7 @@ claim-of-settings {cfg} {seed} {salt} {cap} {t} {r} c made cs rs ran =
       own = each-own cfg seed salt cap cs;
       alike-answers = λ (ds : List Call) (e : bareCalls cs ≡ bareCalls ds). alike cfg seed salt cap cs ds e;
       counted = count cfg seed salt cap cs;
+      reports = each-report cfg seed salt cap cs;
       refusals = only-three-along (freshMachine cfg seed salt cap) cs;
     })
   where

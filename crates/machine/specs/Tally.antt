@@ -1,8 +1,10 @@
 -- What demand 3 counts from the answers: "received, arrive calls not refused; random, GE, MTU, blackout, those decided as that drop (a hold is blackout); reset,
 -- those decided KillRst; duplicates, Enqueue decisions that are duplicated; overflow and torn, the sums of copies said to be overflowed or torn; released, copies
 -- handed out."
+use mathlib.Core.Path.{_≡_}
 use mathlib.Core.List.{List, [], _∷_}
 use Prim.Native.Nat.{ℕ, _+_}
+use Rattle.accounts.specs.declared.stats.DirectionStats.{DirectionStats}
 use Rattle.steps.specs.declared.decision.Decision.{Decision}
 use Rattle.steps.specs.declared.decision.Decision.the-variants.{DropRandom, DropGe, DropMtu, DropBlackout, DropKillHold, Enqueue, KillRst}
 use Rattle.engine.specs.Counts.{oneIf}
@@ -62,3 +64,33 @@ cameIn x = x .received + x .duplicates
 
 abbrev pub accountedFor : Tally → ℕ → ℕ
 accountedFor x held = x .random + x .ge + x .mtu + x .blackout + x .reset + x .overflow + x .released + x .torn + held
+
+-- a report's numbers are those counted so far, and come out by themselves
+pub record Told (x : Tally) (s : DirectionStats) (held torn : ℕ) : Type 0 where
+  pub received : s .«received_pkts» ≡ x .received
+  pub random : s .«dropped_random» ≡ x .random
+  pub ge : s .«dropped_ge» ≡ x .ge
+  pub mtu : s .«dropped_mtu» ≡ x .mtu
+  pub blackout : s .«dropped_blackout» ≡ x .blackout
+  pub reset : s .«tcp_rst_kills» ≡ x .reset
+  pub duplicates : s .duplicates ≡ x .duplicates
+  pub overflow : s .«dropped_overflow» ≡ x .overflow
+  pub released : s .«sent_pkts» ≡ x .released
+  pub tears : torn ≡ x .torn
+  pub balance : s .«received_pkts» + s .duplicates
+      ≡ s .«dropped_random» + s .«dropped_ge» + s .«dropped_mtu» + s .«dropped_blackout» + s .«tcp_rst_kills» + s .«dropped_overflow» + s .«sent_pkts» + torn + held
+
+-- an answer that is a report tells what has been counted
+abbrev pub Tells : Tally → Answer → Type 0
+Tells x (decided d entered overflowed torn) = Unit {0}
+Tells x (released c) = Unit {0}
+Tells x noneDue = Unit {0}
+Tells x (rebound b) = Unit {0}
+Tells x (toreDown n) = Unit {0}
+Tells x (reported s held torn) = Told x s held torn
+Tells x (refused k) = Unit {0}
+
+-- the same for each answer of a list, given what was counted before it
+abbrev pub EachTells : Tally → List Answer → Type 0
+EachTells x [] = Unit {0}
+EachTells x (a ∷ l) = Tells x a × EachTells (plus x (tallyOf a)) l

@@ -1,16 +1,17 @@
--- What holds of every list of calls on a fresh machine, whatever its settings, seed, salt and capacity, and of every refused call and report.
+-- What holds of every list of calls on a fresh machine, whatever its settings, seed, salt and capacity, and of every refused call, report and release.
 use mathlib.Core.Path.{_≡_, sym, ap, _∙_}
 use mathlib.Core.Logic.{_⊎_, ⊎-elim}
 use mathlib.Core.List.{List, [], _∷_}
-use Prim.Native.Nat.{ℕ, _+_}
+use Prim.Native.Nat.{ℕ}
 use native.Mathlib.Omega.{arith}
+use lib.Ieee.{Float}
 use lib.ListN.{length}
-use Rattle.accounts.specs.declared.stats.DirectionStats.{DirectionStats}
 use Rattle.options.specs.declared.config.DirectionConfig.{DirectionConfig}
 use Rattle.machine.specs.Machine.{Machine, freshMachine}
-use Rattle.machine.specs.Calls.{Call, report, Refusal, In, reported, refused}
-use Rattle.machine.specs.Steps.{step, answers, afterAll}
-use Rattle.machine.specs.Tally.{total, cameIn, accountedFor}
+use Rattle.machine.specs.Calls.{Call, report, Refusal, In, refused}
+use Rattle.machine.specs.Steps.{releaseLeast, step, answers, afterAll}
+use Rattle.machine.specs.Due.{dueBy, releaseDue, AllNumbers}
+use Rattle.machine.specs.Tally.{nothing, total, cameIn, accountedFor, EachTells}
 use Rattle.machine.specs.Arrivals.{EachOwn}
 use Rattle.machine.specs.Bare.{bareCalls, bareAnswers}
 use Rattle.machine.specs.Laws.Held.{fresh-order, fresh-empty}
@@ -18,7 +19,8 @@ use Rattle.machine.specs.Laws.Count.{all-balance}
 use Rattle.machine.specs.Laws.Own.{fresh-known, all-own}
 use Rattle.machine.specs.Laws.Bare.{bare-answers, fresh-bare}
 use Rattle.machine.specs.Laws.Refused.{step-refuses, report-changes-nothing}
-use Rattle.machine.specs.Laws.Reports.{Says, fresh-counts, step-says}
+use Rattle.machine.specs.Laws.Reports.{fresh-counted, all-tell}
+use Rattle.machine.specs.Laws.Due.{least-of-due}
 
 -- what came in, received and duplicates, is random, GE, MTU, blackout, reset, overflow, released, torn and held
 pub count : (cfg : DirectionConfig) (seed salt cap : ℕ) (cs : List Call)
@@ -40,18 +42,10 @@ pub alike : (cfg : DirectionConfig) (seed salt cap : ℕ) (cs ds : List Call)
 alike cfg seed salt cap cs ds e =
     bytes-decide-nothing cfg seed salt cap cs ∙ ap (answers (freshMachine cfg seed salt cap)) e ∙ sym (bytes-decide-nothing cfg seed salt cap ds)
 
--- a report says what is counted from the answers before it, and the length of the held list
-pub report-counts : (cfg : DirectionConfig) (seed salt cap : ℕ) (cs : List Call) (s : DirectionStats) (held torn : ℕ)
-    → let m = freshMachine cfg seed salt cap in
-    step (afterAll m cs) report .answer ≡ reported s held torn → Says (total (answers m cs)) (length (afterAll m cs .held)) s held torn
-report-counts cfg seed salt cap cs = let m = freshMachine cfg seed salt cap in step-says (total (answers m cs)) (afterAll m cs) (fresh-counts cfg seed salt cap cs)
-
--- so a report's own numbers come out
-pub report-balances : (cfg : DirectionConfig) (seed salt cap : ℕ) (cs : List Call) (s : DirectionStats) (held torn : ℕ)
-    → step (afterAll (freshMachine cfg seed salt cap) cs) report .answer ≡ reported s held torn
-    → s .«received_pkts» + s .duplicates
-    ≡ s .«dropped_random» + s .«dropped_ge» + s .«dropped_mtu» + s .«dropped_blackout» + s .«tcp_rst_kills» + s .«dropped_overflow» + s .«sent_pkts» + torn + held
-report-balances cfg seed salt cap cs s held torn e = omega (arith, count cfg seed salt cap cs, report-counts cfg seed salt cap cs s held torn e)
+-- a report says what is counted from the answers before it, and its own numbers come out
+pub each-report : (cfg : DirectionConfig) (seed salt cap : ℕ) (cs : List Call) → EachTells nothing (answers (freshMachine cfg seed salt cap) cs)
+each-report cfg seed salt cap cs =
+    all-tell nothing (freshMachine cfg seed salt cap) (fresh-order cfg seed salt cap) (fresh-counted cfg seed salt cap) (omega (arith, fresh-empty cfg seed salt cap)) cs
 
 -- "the machine refuses by 21, 22 and 25 only"
 pub only-three : (m : Machine) (c : Call) (k : ℕ) → step m c .answer ≡ refused k → Refusal k
@@ -70,3 +64,7 @@ refused-stays m c k e = step-refuses m c k e .stays
 -- a report "changes nothing"
 pub report-stays : (m : Machine) → step m report .then ≡ m
 report-stays m = report-changes-nothing m
+
+-- "the least (due, seq) with due ≤ now leaves": wherever no held due is a NaN, to take the least of all and ask whether it is due is to take the least that is due
+pub least-due : (m : Machine) (now : Float) → AllNumbers (m .held) → releaseLeast m now (m .held) ≡ releaseDue m now (dueBy now (m .held))
+least-due m now h = least-of-due m now (m .held) h

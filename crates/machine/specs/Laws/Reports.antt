@@ -1,5 +1,5 @@
--- A report says what demand 3 counts from the answers so far.
-use mathlib.Core.Path.{_≡_, subst}
+-- A report says what demand 3 counts from the answers before it.
+use mathlib.Core.Path.{_≡_}
 use mathlib.Core.List.{List, [], _∷_}
 use Prim.Native.Nat.{ℕ}
 use native.Mathlib.Omega.{arith}
@@ -9,7 +9,6 @@ use lib.ListN.{length}
 use Rattle.numbers.specs.Laws.NotNan.{cond-has}
 use Rattle.accounts.specs.Accountant.{noSends, sentOf, withSends, mergedOf}
 use Rattle.accounts.specs.Stats.{noStats, withLatenciesOf}
-use Rattle.accounts.specs.declared.stats.DirectionStats.{DirectionStats}
 use Rattle.options.specs.declared.config.DirectionConfig.{DirectionConfig}
 use Rattle.steps.specs.declared.decision.Decision.{Decision}
 use Rattle.steps.specs.declared.decision.Decision.the-variants.{DropRandom, DropGe, DropMtu, DropBlackout, DropKillHold, Enqueue, KillRst}
@@ -19,10 +18,12 @@ use Rattle.engine.specs.Engine.{freshOf}
 use Rattle.engine.specs.Laws.Counts.{CountedAs, decide-counts}
 use Rattle.engine.specs.declared.engine.ArrivalEngine.{ArrivalEngine}
 use Rattle.machine.specs.Machine.{Machine, freshMachine}
-use Rattle.machine.specs.Calls.{Call, report, Answer, decided, released, noneDue, rebound, toreDown, reported, refused}
-use Rattle.machine.specs.Steps.{Step, Entry, entry, withEngine, enterCopy, resetOf, follow, step, answers, afterAll}
-use Rattle.machine.specs.Tally.{Tally, tally, nothing, arrival, tallyOf, plus, total}
+use Rattle.machine.specs.Calls.{Call}
+use Rattle.machine.specs.Steps.{Step, Entry, entry, withEngine, enterCopy, resetOf, follow, step, answers}
+use Rattle.machine.specs.Tally.{Tally, tally, nothing, arrival, tallyOf, plus, cameIn, accountedFor, Told, Tells, EachTells}
 use Rattle.machine.specs.Laws.Cases.{Does, refuses, decides, releases, finds-none, rebinds, keeps, tears, reports, step-does, enters-have}
+use Rattle.machine.specs.Laws.Held.{InOrder, step-order}
+use Rattle.machine.specs.Laws.Count.{step-balances}
 
 -- the engine has counted what came and overflowed, the accounts what was sent and reset
 pub record Counted (x : Tally) (m : Machine) : Type 0 where
@@ -43,6 +44,10 @@ pub record Counted (x : Tally) (m : Machine) : Type 0 where
 -- a step counts what its answer adds
 abbrev pub Counts : Tally → Step → Type 0
 Counts x s = Counted (plus x (tallyOf (s .answer))) (s .then)
+
+-- what came in so far is accounted for
+abbrev pub Balanced : Tally → Machine → Type 0
+Balanced x m = cameIn x ≡ accountedFor x (length (m .held))
 
 -- ---- steps
 
@@ -84,53 +89,42 @@ does-counts x (keeps now) h = omega arith
 does-counts x tears h = omega arith
 does-counts x reports h = omega arith
 
--- ---- lists of calls
-
-all-counted : (x : Tally) (m : Machine) → Counted x m → (cs : List Call) → Counted (plus x (total (answers m cs))) (afterAll m cs)
-unfolding answers afterAll total
-all-counted x m h [] = omega arith
-all-counted x m h (c ∷ cs) = omega (arith, all-counted (plus x (tallyOf (step m c .answer))) (step m c .then) (does-counts x (step-does m c) h) cs)
-
-fresh-counted : (cfg : DirectionConfig) (seed salt cap : ℕ) → Counted nothing (freshMachine cfg seed salt cap)
-unfolding freshMachine freshOf noStats noSends
-fresh-counted cfg seed salt cap = omega arith
-
-pub fresh-counts : (cfg : DirectionConfig) (seed salt cap : ℕ) (cs : List Call) → let m = freshMachine cfg seed salt cap in Counted (total (answers m cs)) (afterAll m cs)
-fresh-counts cfg seed salt cap cs = omega (arith, all-counted nothing (freshMachine cfg seed salt cap) (fresh-counted cfg seed salt cap) cs)
-
 -- ---- reports
 
--- what a report says is what was counted, and how many copies are held
-pub record Says (x : Tally) (number : ℕ) (s : DirectionStats) (held torn : ℕ) : Type 0 where
-  pub received : s .«received_pkts» ≡ x .received
-  pub random : s .«dropped_random» ≡ x .random
-  pub ge : s .«dropped_ge» ≡ x .ge
-  pub mtu : s .«dropped_mtu» ≡ x .mtu
-  pub blackout : s .«dropped_blackout» ≡ x .blackout
-  pub resets : s .«tcp_rst_kills» ≡ x .reset
-  pub duplicates : s .duplicates ≡ x .duplicates
-  pub overflow : s .«dropped_overflow» ≡ x .overflow
-  pub sends : s .«sent_pkts» ≡ x .released
-  pub tears : torn ≡ x .torn
-  pub holds : held ≡ number
-
--- an answer that is a report says so
-abbrev SaysIn : Tally → ℕ → Answer → Type 0
-SaysIn x n (decided d entered overflowed torn) = Unit {0}
-SaysIn x n (released c) = Unit {0}
-SaysIn x n noneDue = Unit {0}
-SaysIn x n (rebound b) = Unit {0}
-SaysIn x n (toreDown k) = Unit {0}
-SaysIn x n (reported s held torn) = Says x n s held torn
-SaysIn x n (refused k) = Unit {0}
-
-merged-says : (x : Tally) (m : Machine) → Counted x m → Says x (length (m .held)) (mergedOf (m .accounts) (m .engine .stats)) (length (m .held)) (m .torn)
+merged-tells : (x : Tally) (m : Machine) → Counted x m → Balanced x m → Told x (mergedOf (m .accounts) (m .engine .stats)) (length (m .held)) (m .torn)
 unfolding mergedOf withSends withLatenciesOf
-merged-says x m h = omega arith
+merged-tells x m h b = omega arith
 
-report-says : (x : Tally) {m : Machine} {s : Step} → Does m report s → Counted x m → SaysIn x (length (m .held)) (s .answer)
-report-says x (refuses c k r) h = tt
-report-says x {m} reports h = merged-says x m h
+follow-tells : (x : Tally) (m : Machine) (d : Decision) (now : Float) (bytes : List ℕ) (route : ℕ) → Tells x (follow m d now bytes route .answer)
+unfolding follow
+follow-tells x m DropRandom now bytes route = tt
+follow-tells x m DropGe now bytes route = tt
+follow-tells x m DropMtu now bytes route = tt
+follow-tells x m DropBlackout now bytes route = tt
+follow-tells x m DropKillHold now bytes route = tt
+follow-tells x m (Enqueue due duplicated) now bytes route = tt
+follow-tells x m KillRst now bytes route = tt
 
-pub step-says : (x : Tally) (m : Machine) → Counted x m → (s : DirectionStats) (held torn : ℕ) → step m report .answer ≡ reported s held torn → Says x (length (m .held)) s held torn
-step-says x m h s held torn e = subst (SaysIn x (length (m .held))) e (report-says x (step-does m report) h)
+does-tells : (x : Tally) {m : Machine} {c : Call} {s : Step} → Does m c s → Counted x m → Balanced x m → Tells x (s .answer)
+does-tells x (refuses c k r) h b = tt
+does-tells x (decides now bytes route) h b = follow-tells x _ _ now bytes route
+does-tells x (releases now c l e) h b = tt
+does-tells x (finds-none now) h b = tt
+does-tells x (rebinds now) h b = tt
+does-tells x (keeps now) h b = tt
+does-tells x tears h b = tt
+does-tells x {m} reports h b = merged-tells x m h b
+
+-- ---- lists of calls
+
+pub all-tell : (x : Tally) (m : Machine) → InOrder m → Counted x m → Balanced x m → (cs : List Call) → EachTells x (answers m cs)
+unfolding answers
+all-tell x m o h b [] = tt
+all-tell x m o h b (c ∷ cs) = (
+  does-tells x (step-does m c) h b,
+  all-tell (plus x (tallyOf (step m c .answer))) (step m c .then) (step-order m c o) (does-counts x (step-does m c) h) (omega (arith, b, step-balances m c o)) cs,
+)
+
+pub fresh-counted : (cfg : DirectionConfig) (seed salt cap : ℕ) → Counted nothing (freshMachine cfg seed salt cap)
+unfolding freshMachine freshOf noStats noSends
+fresh-counted cfg seed salt cap = omega arith
