@@ -31,7 +31,8 @@ pub fn settings_of(text: &[u8]) -> Result<Config, u32> {
     parse_config(&differences::applied(&arguments)).map_err(|sentence| refusals::number(&sentence))
 }
 
-fn taken(c: &Config) -> String {
+// The answer to a text that is taken.
+pub fn taken(c: &Config) -> String {
     format!(
         "taken mode={} seed={} duration={} verbose={} cap={} [{}] [{}]",
         c.mode.as_str(),

@@ -10,6 +10,7 @@ mod engine_calls;
 mod engine_texts;
 mod impair;
 mod instants;
+mod limits;
 mod long_texts;
 mod print;
 mod refusals;

@@ -3,11 +3,10 @@
 use crate::answers::settings_of;
 use crate::config::{Config, DirectionConfig};
 use crate::impair::{ArrivalEngine, Decision};
-use crate::instants::{float_of, LAST};
+use crate::instants::float_of;
+use crate::limits::{is_instant, LONGEST};
 use crate::print::{count, float};
 use crate::script;
-
-const LONGEST: u64 = 2048;
 
 pub struct Answers {
     settings: Config,
@@ -64,7 +63,7 @@ impl Answers {
     }
 
     fn decide(&mut self, now: f64, len: u64) -> String {
-        if !in_range(now) {
+        if !is_instant(now) {
             return "refused 21".to_string();
         }
         if len > LONGEST {
@@ -96,10 +95,6 @@ impl Answers {
     }
 }
 
-fn in_range(now: f64) -> bool {
-    now.is_sign_positive() && now <= LAST
-}
-
 fn timed(word: &str, now: f64, call: impl FnOnce(f64) -> bool) -> String {
-    if in_range(now) { format!("{word} {}", call(now) as u8) } else { "refused 21".to_string() }
+    if is_instant(now) { format!("{word} {}", call(now) as u8) } else { "refused 21".to_string() }
 }

@@ -44,13 +44,20 @@ impl Calls {
         }
     }
 
+    // Goes on to a later instant, where it is not too far ahead.
+    pub fn go_on_to(&mut self, instant: f64, ahead: f64) {
+        if self.now < instant && instant <= self.now + ahead {
+            self.now = instant;
+        }
+    }
+
     // The bits of an instant.
     fn instant(&mut self, r: &mut SplitMix) -> String {
         bits(self.drawn(r))
     }
 
-    // Some instants in a hundred are out of range.
-    fn drawn(&mut self, r: &mut SplitMix) -> f64 {
+    // The next instant; some in a hundred are out of range.
+    pub fn drawn(&mut self, r: &mut SplitMix) -> f64 {
         if r.percent(1) { out_of_range(r) } else { self.in_range(r) }
     }
 
@@ -64,7 +71,7 @@ impl Calls {
     }
 
     // Of a line that has a period often the next rebind itself, or a neighbour of it.
-    fn rebind_instant(&mut self, r: &mut SplitMix) -> String {
+    pub fn rebind_instant(&mut self, r: &mut SplitMix) -> String {
         let near = self.period > 0 && r.percent(40);
         let instant = if near { within(beside(r, self.next_rebind)) } else { self.drawn(r) };
         if self.period > 0 && instant >= self.next_rebind && instant <= LAST {
@@ -113,7 +120,7 @@ impl Calls {
     }
 
     // From 0 to 2,048, often the mtu or one more; some in a hundred are longer.
-    fn length(&self, r: &mut SplitMix) -> u64 {
+    pub fn length(&self, r: &mut SplitMix) -> u64 {
         let near = match self.mtu {
             Some(mtu) if mtu <= 2048 => mtu - 1 + r.below(3) as u64,
             _ => r.below(2049) as u64,

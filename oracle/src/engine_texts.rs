@@ -4,6 +4,9 @@ use crate::split_mix::SplitMix;
 use crate::values::{burst_loss, probability, some_time, time, window};
 use crate::well_formed::option;
 
+// How the value of an option is drawn.
+pub type Draw = fn(&mut SplitMix) -> String;
+
 const FEW: [&str; 6] = ["0.01", "0.02", "0.05", "0.1", "0.25", ".000000000000001"];
 
 // Most are small, so that most packets get past each draw.
@@ -73,13 +76,12 @@ fn entries(r: &mut SplitMix) -> usize {
 }
 
 // The options of a direction; half of the scalar ones are there.
-fn direction(r: &mut SplitMix, prefix: &str, tcp: bool) -> Vec<String> {
-    type Draw = fn(&mut SplitMix) -> String;
+fn direction(r: &mut SplitMix, prefix: &str, tcp: bool, delay: Draw) -> Vec<String> {
     let both: [(&str, Draw); 7] = [
         ("loss", chance),
         ("ge", bursts),
-        ("delay-ms", |r| time(r, true)),
-        ("jitter-ms", |r| time(r, true)),
+        ("delay-ms", delay),
+        ("jitter-ms", delay),
         ("rate-bps", rate),
         ("rate-burst-bytes", burst_bytes),
         ("mtu", mtu),
@@ -120,14 +122,23 @@ fn shaped(r: &mut SplitMix) -> Vec<u8> {
     options.into_bytes()
 }
 
-// A text with options for both directions.
+// A text with options for both directions, and any delays.
 pub fn text(r: &mut SplitMix) -> Vec<u8> {
+    text_with(r, any_delay)
+}
+
+pub fn any_delay(r: &mut SplitMix) -> String {
+    time(r, true)
+}
+
+// A text with options for both directions, whose delays and jitters are drawn so.
+pub fn text_with(r: &mut SplitMix, delay: Draw) -> Vec<u8> {
     if r.percent(10) {
         return shaped(r);
     }
     let tcp = r.percent(35);
-    let mut options = direction(r, "c2s-", tcp);
-    options.extend(direction(r, "s2c-", tcp));
+    let mut options = direction(r, "c2s-", tcp, delay);
+    options.extend(direction(r, "s2c-", tcp, delay));
     if tcp {
         options.insert(r.below(options.len() + 1), option(r, "mode", "tcp"));
     }

@@ -3,6 +3,7 @@
 //   queues answer            reads a script and prints its answers
 //   queues count             reads answers and says on stderr how many there are of each kind
 mod config;
+mod copies;
 mod impair;
 mod instants;
 mod print;

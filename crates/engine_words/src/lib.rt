@@ -1,4 +1,6 @@
 // The engine's answers as words, for the programs. `out` and `at` are those of output::collected.
+pub mod stats;
+
 use accounts::Outcome;
 use engine::BoolAnswer;
 use engine::DecideAnswer;
@@ -13,7 +15,7 @@ pub fn decided(out: &mut [u8], at: usize, answer: DecideAnswer) -> usize {
     }
 }
 
-fn decision_text(out: &mut [u8], at: usize, decision: Decision) -> usize {
+pub fn decision_text(out: &mut [u8], at: usize, decision: Decision) -> usize {
     match decision {
         Decision::DropRandom => collected::text(out, at, b"drop random"),
         Decision::DropGe => collected::text(out, at, b"drop ge"),

@@ -41,7 +41,7 @@ pub(crate) fn pushed(answer: PushAnswer) -> Answer {
     }
 }
 
-pub(crate) fn released(answer: ReleaseAnswer) -> Answer {
+pub fn released(answer: ReleaseAnswer) -> Answer {
     match answer {
         ReleaseAnswer::Released(copy) => Answer::Released(copy),
         ReleaseAnswer::NoneDue => Answer::NoneDue,

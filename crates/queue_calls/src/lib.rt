@@ -6,6 +6,7 @@ mod words;
 
 pub use answers::Answer;
 pub use answers::Answered;
+pub use answers::released;
 pub use calls::Call;
 pub use calls::Copy;
 pub use lent::make;

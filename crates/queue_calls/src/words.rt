@@ -9,12 +9,12 @@ use script::payload;
 pub fn say(out: &mut [u8], at: usize, answer: Answer, store: &[u8]) -> usize {
     match answer {
         Answer::Created => collected::text(out, at, b"created"),
-        Answer::Entered(seq) => numbered(out, at, b"entered", seq),
+        Answer::Entered(seq) => answers::numbered(out, at, b"entered", seq),
         Answer::Released(copy) => released(out, at, copy, store),
         Answer::NoneDue => collected::text(out, at, b"none"),
         Answer::Due(due_ms) => due(out, at, due_ms),
         Answer::Empty => collected::text(out, at, b"empty"),
-        Answer::Drained(n) => numbered(out, at, b"drained", n as u64),
+        Answer::Drained(n) => answers::numbered(out, at, b"drained", n as u64),
         Answer::Held(n, empty) => held(out, at, n, empty),
         Answer::Refused(n) => answers::refused(out, at, n),
         Answer::Nothing => answers::bad_line(out, at),
@@ -49,12 +49,6 @@ fn due(out: &mut [u8], at: usize, due_ms: f64) -> usize {
 }
 
 fn held(out: &mut [u8], at: usize, n: usize, empty: bool) -> usize {
-    let end = numbered(out, at, b"len", n as u64);
+    let end = answers::numbered(out, at, b"len", n as u64);
     collected::count(out, end, empty as u64)
-}
-
-// The word, a blank and the number.
-fn numbered(out: &mut [u8], at: usize, word: &[u8], n: u64) -> usize {
-    let end = collected::text(out, at, word);
-    collected::count(out, end, n)
 }

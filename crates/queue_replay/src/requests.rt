@@ -4,6 +4,7 @@ use crate::words::Word;
 use queue_calls::Call;
 use queue_calls::Copy;
 use script::Event;
+use script::fields;
 
 // A call; of a push also the number of the bytes and the seed that they are made from.
 pub struct Request {
@@ -43,8 +44,8 @@ fn request_of(line: &[u8]) -> Request {
 
 // A capacity.
 fn new_queue(rest: &[u8]) -> Request {
-    if words::is_whole(rest) {
-        without_bytes(Call::Create(words::whole_of(rest) as usize))
+    if fields::is_whole(rest) {
+        without_bytes(Call::Create(fields::whole_of(rest) as usize))
     } else {
         nothing()
     }
@@ -54,11 +55,11 @@ fn new_queue(rest: &[u8]) -> Request {
 fn push(rest: &[u8]) -> Request {
     let route = script::rest(script::rest(rest));
     let length = script::rest(script::rest(route));
-    if is_copy(rest, route) & is_bytes(length) {
+    if is_copy(rest, route) & fields::is_pair(length) {
         Request {
             call: Call::Push(copy_of(rest, route)),
-            length: words::whole_of(script::first_word(length)),
-            fill: words::whole_of(script::rest(length)),
+            length: fields::whole_of(script::first_word(length)),
+            fill: fields::whole_of(script::rest(length)),
         }
     } else {
         nothing()
@@ -67,30 +68,25 @@ fn push(rest: &[u8]) -> Request {
 
 // Whether a due and an arrival stand in `rest`, and a route and a copy id in `route`.
 fn is_copy(rest: &[u8], route: &[u8]) -> bool {
-    words::is_pattern(script::first_word(rest))
-        & words::is_pattern(script::first_word(script::rest(rest)))
-        & words::is_whole(script::first_word(route))
+    fields::is_pattern(script::first_word(rest))
+        & fields::is_pattern(script::first_word(script::rest(rest)))
+        & fields::is_whole(script::first_word(route))
         & words::is_u32(script::first_word(script::rest(route)))
 }
 
 fn copy_of(rest: &[u8], route: &[u8]) -> Copy {
     Copy {
-        due_ms: words::float_of(script::first_word(rest)),
-        arrival_ms: words::float_of(script::first_word(script::rest(rest))),
-        route: words::whole_of(script::first_word(route)),
+        due_ms: fields::float_of(script::first_word(rest)),
+        arrival_ms: fields::float_of(script::first_word(script::rest(rest))),
+        route: fields::whole_of(script::first_word(route)),
         copy_id: words::u32_of(script::first_word(script::rest(route))),
     }
 }
 
-// Whether a length and a seed stand in `rest`, and nothing more.
-fn is_bytes(rest: &[u8]) -> bool {
-    words::is_whole(script::first_word(rest)) & words::is_whole(script::rest(rest))
-}
-
 // An instant.
 fn release(rest: &[u8]) -> Request {
-    if words::is_pattern(rest) {
-        without_bytes(Call::Release(words::float_of(rest)))
+    if fields::is_pattern(rest) {
+        without_bytes(Call::Release(fields::float_of(rest)))
     } else {
         nothing()
     }

@@ -10,6 +10,12 @@ pub fn refused(out: &mut [u8], at: usize, n: u32) -> usize {
     collected::decimal(out, end, n as u64)
 }
 
+// The word, a blank and the number.
+pub fn numbered(out: &mut [u8], at: usize, word: &[u8], n: u64) -> usize {
+    let end = collected::text(out, at, word);
+    collected::count(out, end, n)
+}
+
 // Writes what is collected; nothing is left.
 pub fn written(out: &[u8], at: usize) -> usize {
     collected::flush(out, at);

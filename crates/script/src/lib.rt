@@ -1,6 +1,7 @@
 // Scripts: lines from standard input, and what the words of a line stand for.
 pub mod answers;
 mod cuts;
+pub mod fields;
 mod hex;
 mod input;
 mod lines;

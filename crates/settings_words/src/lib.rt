@@ -1,4 +1,4 @@
-// Settings as text. `out` and `at` are those of output::collected.
+// Settings as words, for the programs. `out` and `at` are those of output::collected.
 use options::Config;
 use options::DirectionConfig;
 use options::Ge;

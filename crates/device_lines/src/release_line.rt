@@ -1,0 +1,36 @@
+// The line `r NOW`: the least copy that is due leaves.
+use crate::state::State;
+
+pub fn release(
+    out: &mut [u8],
+    mut s: State,
+    now_ms: f64,
+    win: &mut [u32],
+    free: &mut [u32],
+    dues: &mut [f64],
+    seqs: &mut [u64],
+    arrivals: &[f64],
+    routes: &[u64],
+    copy_ids: &[u32],
+    lengths: &[u32],
+    store: &[u8],
+) -> State {
+    let device = s.device;
+    let released = device.release(
+        win,
+        free,
+        dues,
+        seqs,
+        arrivals,
+        routes,
+        copy_ids,
+        lengths,
+        store,
+        now_ms,
+    );
+    let after = released.device;
+    let answer = released.answer;
+    s.device = after;
+    s.at = device_words::released(out, s.at, answer, store);
+    s
+}
