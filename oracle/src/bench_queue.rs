@@ -1,15 +1,18 @@
 // The benchmark's loop of the queue: the port's (crates/bench_queue, linked as a static library) and the same loop over the Rust source, in turns.
 mod config;
 mod impair;
+mod lent;
 mod rng;
 mod stats;
+mod timing;
 
 use impair::ImpairQueue;
-use std::time::{Duration, Instant};
+use lent::{Memory, SLOT_WIDTH};
+use std::time::Instant;
+use timing::{median, per_round, Ran};
 
 const LENGTH: usize = 200;
 const SOURCES: u64 = 16;
-const SLOT_WIDTH: usize = 2048;
 const SPREAD_MS: f64 = 1000.0;
 const TURNS: usize = 5;
 const SEED: u64 = 0x9E37_79B9_7F4A_7C15;
@@ -58,45 +61,6 @@ extern "C" {
         count: u64,
         seed: u64,
     ) -> u64;
-}
-
-// What a host lends, and the buffer to which it hands on the bytes of what left. All is written to once, here, so that every page is there before a run; no
-// run clears it.
-struct Memory {
-    win: Vec<u32>,
-    free: Vec<u32>,
-    dues: Vec<f64>,
-    seqs: Vec<u64>,
-    arrivals: Vec<f64>,
-    routes: Vec<u64>,
-    copy_ids: Vec<u32>,
-    lengths: Vec<u32>,
-    store: Vec<u8>,
-    sent: Vec<u8>,
-}
-
-impl Memory {
-    fn new(cap: usize) -> Memory {
-        Memory {
-            win: vec![1; cap],
-            free: vec![1; cap],
-            dues: vec![1.0; cap],
-            seqs: vec![1; cap],
-            arrivals: vec![1.0; cap],
-            routes: vec![1; cap],
-            copy_ids: vec![1; cap],
-            lengths: vec![1; cap],
-            store: vec![1; cap * SLOT_WIDTH],
-            sent: vec![1; SLOT_WIDTH],
-        }
-    }
-}
-
-// The time of a run, the sum of what left, and the bytes of the last that left.
-struct Ran {
-    took: Duration,
-    sum: u64,
-    sent: Vec<u8>,
 }
 
 fn port(memory: &mut Memory, source: &[u8], cap: usize, held: usize, count: u64) -> Ran {
@@ -176,16 +140,6 @@ impl Turns {
     }
 }
 
-// The nanoseconds of a round: the time of all less the time of the copies that enter before, in a run of their own.
-fn per_round(filled: &Ran, all: &Ran, rounds: u64) -> f64 {
-    all.took.saturating_sub(filled.took).as_nanos() as f64 / rounds as f64
-}
-
-fn median(mut times: Vec<f64>) -> f64 {
-    times.sort_by(f64::total_cmp);
-    times[times.len() / 2]
-}
-
 fn in_turns(case: &Case, memory: &mut Memory, source: &[u8]) {
     let Case { cap, held, rounds } = *case;
     let before = held as u64;
@@ -203,13 +157,13 @@ fn in_turns(case: &Case, memory: &mut Memory, source: &[u8]) {
     println!("capacity {cap}, {held} held, {rounds} rounds of one push and one release; same sum");
     for (name, times) in [("port", &ports), ("rust", &rusts)] {
         let shown: Vec<String> = times.iter().map(|t| format!("{t:.1}")).collect();
-        println!("  {name}, ns for a round: {}; median {:.1}", shown.join(" "), median(times.clone()));
+        println!("  {name}, ns for a round: {}; median {:.1}", shown.join(" "), median(times));
     }
-    println!("  port to rust, medians: {:.2}", median(ports) / median(rusts));
+    println!("  port to rust, medians: {:.2}", median(&ports) / median(&rusts));
 }
 
 fn main() {
-    let source: Vec<u8> = (0..SOURCES as usize * SLOT_WIDTH).map(|i| (i / SLOT_WIDTH + i) as u8).collect();
+    let source = lent::payloads(SOURCES as usize);
     for case in &CASES {
         in_turns(case, &mut Memory::new(case.cap), &source);
     }
