@@ -1,0 +1,73 @@
+// The settings of the devices; each differs from the default in one thing, or two.
+use options::DirectionConfig;
+use options::RateOption;
+use settings::KillStyle;
+use settings::TcpKill;
+use settings::Window;
+
+pub fn nan() -> f64 {
+    0.0 / 0.0
+}
+
+pub fn delay(delay_ms: f64) -> DirectionConfig {
+    let mut d = DirectionConfig::default();
+    d.delay_ms = delay_ms;
+    d
+}
+
+// A loss beside a delay of 5 ms.
+pub fn loss(loss: f64) -> DirectionConfig {
+    let mut d = delay(5.0);
+    d.loss = loss;
+    d
+}
+
+// Every packet is duplicated.
+pub fn duplicates() -> DirectionConfig {
+    let mut d = DirectionConfig::default();
+    d.duplicate_p = 1.0;
+    d
+}
+
+// From 100 to 200 every arrival is a reset.
+pub fn kill() -> DirectionConfig {
+    let mut d = DirectionConfig::default();
+    let mut kills = d.tcp_kills;
+    let window = Window {
+        start_ms: 100,
+        end_ms: 200,
+    };
+    kills[0] = TcpKill {
+        window,
+        style: KillStyle::Rst,
+    };
+    d.tcp_kills = kills;
+    d.tcp_kill_count = 1;
+    d
+}
+
+// 8,000 bits a second: one byte is one millisecond.
+pub fn rate() -> DirectionConfig {
+    let d = DirectionConfig::default();
+    let ge = d.ge;
+    let mtu = d.mtu;
+    let blackouts = d.blackouts;
+    let tcp_kills = d.tcp_kills;
+    DirectionConfig {
+        loss: d.loss,
+        ge,
+        delay_ms: d.delay_ms,
+        jitter_ms: d.jitter_ms,
+        reorder_p: d.reorder_p,
+        reorder_delay_ms: d.reorder_delay_ms,
+        duplicate_p: d.duplicate_p,
+        rate_bps: RateOption::Present(8000),
+        rate_burst_bytes: d.rate_burst_bytes,
+        mtu,
+        blackouts,
+        blackout_count: d.blackout_count,
+        nat_change_every_ms: d.nat_change_every_ms,
+        tcp_kills,
+        tcp_kill_count: d.tcp_kill_count,
+    }
+}
