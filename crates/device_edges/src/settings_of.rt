@@ -1,13 +1,9 @@
-// The settings of the devices; each differs from the default in one thing, or two.
+// The settings of the devices.
 use options::DirectionConfig;
 use options::RateOption;
 use settings::KillStyle;
 use settings::TcpKill;
 use settings::Window;
-
-pub fn nan() -> f64 {
-    0.0 / 0.0
-}
 
 pub fn delay(delay_ms: f64) -> DirectionConfig {
     let mut d = DirectionConfig::default();
@@ -15,10 +11,10 @@ pub fn delay(delay_ms: f64) -> DirectionConfig {
     d
 }
 
-// A loss beside a delay of 5 ms.
-pub fn loss(loss: f64) -> DirectionConfig {
-    let mut d = delay(5.0);
-    d.loss = loss;
+// A loss and a delay of NaN.
+pub fn wrong() -> DirectionConfig {
+    let mut d = delay(0.0 / 0.0);
+    d.loss = 0.0 / 0.0;
     d
 }
 
@@ -29,19 +25,18 @@ pub fn duplicates() -> DirectionConfig {
     d
 }
 
-// From 100 to 200 every arrival is a reset.
+// From 20 to 25 every arrival is a reset.
 pub fn kill() -> DirectionConfig {
     let mut d = DirectionConfig::default();
-    let mut kills = d.tcp_kills;
     let window = Window {
-        start_ms: 100,
-        end_ms: 200,
+        start_ms: 20,
+        end_ms: 25,
     };
-    kills[0] = TcpKill {
+    let kill = TcpKill {
         window,
         style: KillStyle::Rst,
     };
-    d.tcp_kills = kills;
+    d.tcp_kills = [kill; 128];
     d.tcp_kill_count = 1;
     d
 }

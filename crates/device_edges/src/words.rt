@@ -119,6 +119,10 @@ pub fn reported(report: Reported) {
     }
 }
 
+pub fn kept(yes: bool) {
+    numbered(b"; kept", yes as u64);
+}
+
 // Loss and delay, the state of the generator and the capacity.
 pub fn device(device: Device) {
     let engine = device.engine;
