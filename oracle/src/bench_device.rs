@@ -147,7 +147,7 @@ fn rust(text: &[u8], source: &[u8], cap: usize, count: u64) -> (Ran, usize) {
     let mut line = Line::new(text, cap);
     let mut now_ms = 0.0;
     for left in (1..=count).rev() {
-        let at = (left % SOURCES) as usize * SLOT_WIDTH;
+        let at = (left % SOURCES) as usize * LENGTH;
         line.arrive(now_ms, &source[at..at + LENGTH], left);
         line.release(now_ms);
         now_ms += STEP_MS;
@@ -243,7 +243,7 @@ fn in_turns(case: &Case, memory: &mut Memory, source: &[u8]) {
 }
 
 fn main() {
-    let source = lent::payloads(SOURCES as usize);
+    let source = lent::payloads(SOURCES as usize, LENGTH);
     println!("| Capacity | Held | Windows | Port, ns for a round | Rust, ns for a round | Port to Rust, medians |");
     println!("|---|---|---|---|---|---|");
     for case in &CASES {

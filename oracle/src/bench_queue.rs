@@ -163,7 +163,7 @@ fn in_turns(case: &Case, memory: &mut Memory, source: &[u8]) {
 }
 
 fn main() {
-    let source = lent::payloads(SOURCES as usize);
+    let source = lent::payloads(SOURCES as usize, SLOT_WIDTH);
     for case in &CASES {
         in_turns(case, &mut Memory::new(case.cap), &source);
     }

@@ -33,7 +33,7 @@ impl Memory {
     }
 }
 
-// Payloads that enter in turns, each at the front of a slot.
-pub fn payloads(count: usize) -> Vec<u8> {
-    (0..count * SLOT_WIDTH).map(|i| (i / SLOT_WIDTH + i) as u8).collect()
+// So many bytes for each of the payloads that enter in turns; no two payloads are the same.
+pub fn payloads(count: usize, width: usize) -> Vec<u8> {
+    (0..count * width).map(|i| (i / width + i) as u8).collect()
 }

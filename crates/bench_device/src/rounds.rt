@@ -5,10 +5,12 @@ use device::Device;
 // The instant goes on by so much from one arrival to the next, in milliseconds.
 const STEP_MS: f64 = 0.01;
 
-// The bytes of a packet, and how many packets of the source arrive in turns.
-const LENGTH: usize = 200;
-
+// The packets of the source arrive in turns: how many they are, and the bytes of each.
 const SOURCES: u64 = 16;
+
+const WIDTH: u32 = 200;
+
+const LENGTH: usize = 200;
 
 pub(crate) struct Ran {
     pub device: Device,
@@ -35,7 +37,7 @@ pub(crate) fn run(
     let mut sum: u64 = 0;
     let mut left = count;
     while 0 < left {
-        let bytes = device::payload(source, (left % SOURCES) as u32, LENGTH);
+        let bytes = tables::part(source, WIDTH, (left % SOURCES) as u32, LENGTH);
         let arrived = device.arrive(
             win,
             free,

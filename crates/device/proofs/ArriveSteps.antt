@@ -1,5 +1,5 @@
 -- Each return of an arrival, over plain variables. What was judged does not overflow by what one arrival adds.
-use mathlib.Core.Path.{_≡_, sym, ap, _∙_}
+use mathlib.Core.Path.{_≡_, refl, sym, ap, _∙_}
 use mathlib.Core.Bool.{Bool}
 use mathlib.Core.List.{List}
 use Prim.Native.Nat.{ℕ, _+_, _<_, _^_}
@@ -11,22 +11,33 @@ use Rattle.numbers.specs.Instant.{isInstantOf}
 use Rattle.numbers.specs.Laws.Limits.{counter-below}
 use Rattle.numbers.specs.Limits.{isLengthOf}
 use Rattle.accounts.specs.Laws.Small.{small-sends, small-stats}
-use Rattle.engine.specs.Decide.{decideUncheckedOf}
+use Rattle.engine.specs.Decide.{afterOf, decideUncheckedOf}
 use Rattle.engine.specs.Laws.Counts.{decide-counts}
 use Rattle.engine.specs.declared.answers.Arrived.{Arrived as Decided}
+use Rattle.engine.specs.declared.engine.ArrivalEngine.{ArrivalEngine}
 use Rattle.queue.specs.Tables.{Tables, After, after}
 use Rattle.admission.specs.Follow.{followOf}
 use Rattle.admission.specs.Laws.Bounds.{follow-bounds}
 use Rattle.admission.specs.declared.admitted.Admitted.{Admitted}
 use Rattle.device.specs.Refusals.{callRefusal}
 use Rattle.device.specs.Arrive.{notArrived, settledOf, arriveRefusal, arriveOf}
+use Rattle.device.specs.Parts.{movingOf, decidedWith}
 use Rattle.device.specs.declared.answers.Arrived.{Arrived}
+use Rattle.device.specs.declared.arrive.Moving.{Moving}
 use Rattle.device.specs.declared.device.Device.{Device}
 use Rattle.device.proofs.RefusalSteps.{roomIn, room-is, Passed, no-refusal}
 
+again : (e : ArrivalEngine) (now : Float) (len : ℕ) → decidedWith e (movingOf (decideUncheckedOf e now len)) ≡ decideUncheckedOf e now len
+unfolding decideUncheckedOf afterOf
+again e now len = refl
+
+-- the parts that an arrival moves, put into the engine, are what was decided
+same : (e : ArrivalEngine) (now : Float) (len : ℕ) (d : Decided) (m : Moving) → d ≡ decideUncheckedOf e now len → m ≡ movingOf d → decidedWith e m ≡ d
+same e now len d m ed em = ap (decidedWith e) (em ∙ ap movingOf ed) ∙ again e now len ∙ sym ed
+
 -- what `settled` asks
-pub record Room (v : Device) (d : Decided) (a : Admitted) : Type 0 where
-  pub overflows : d .engine .stats .«dropped_overflow» + a .overflowed < 2 ^ 64
+pub record Room (v : Device) (m : Moving) (a : Admitted) : Type 0 where
+  pub overflows : m .stats .«dropped_overflow» + a .overflowed < 2 ^ 64
   pub resets : v .accounts .«tcp_rst_kills» + a .resets < 2 ^ 64
   pub torn : v .torn + a .torn < 2 ^ 64
 
@@ -43,16 +54,19 @@ module _ (width : ℕ) (v : Device) (t : Tables) (now : Float) (bytes : List ℕ
     passed : Passed v len
     passed = no-refusal v memory instant len (sym en ∙ h)
 
-    module _ (d : Decided) (a : Admitted) (t′ : Tables) (ed : d ≡ decideUncheckedOf (v .engine) now (length bytes)) (ea : after a t′ ≡ followOf width (v .queue) t (d .decision) now route bytes) where
-      pub arrive-done : (x : Arrived) → x ≡ settledOf v d a → after x t′ ≡ arriveOf width v t now bytes route
+    module _ (d : Decided) (m : Moving) (a : Admitted) (t′ : Tables) (ed : d ≡ decideUncheckedOf (v .engine) now (length bytes)) (md : m ≡ movingOf d)
+        (ea : after a t′ ≡ followOf width (v .queue) t (d .decision) now route bytes) where
+      pub arrive-done : (x : Arrived) → x ≡ settledOf v (decidedWith (v .engine) m) a → after x t′ ≡ arriveOf width v t now bytes route
       unfolding arriveOf
-      arrive-done x ex = rw (← asked, eq-eqb number 0 h, ← ed, ← ea) (ap (λ (y : Arrived). after y t′) ex)
+      arrive-done x ex =
+          rw (← asked, eq-eqb number 0 h, ← ed, ← ea)
+          (ap (λ (y : Arrived). after y t′) (ex ∙ ap (λ (z : Decided). settledOf v z a) (same (v .engine) now (length bytes) d m ed md)))
 
-      pub arrive-room : Room v d a
+      pub arrive-room : Room v m a
       arrive-room =
           let bounds = follow-bounds width (v .queue) t (d .decision) now route bytes in
           record {
-            overflows = omega (arith, small-stats (v .engine .stats) (passed .stats) .«dropped_overflow», decide-counts (v .engine) now (length bytes) .overflow, ap (λ (x : Decided). x .engine .stats .«dropped_overflow») ed, ap (λ (x : After Admitted). x .gives .overflowed) ea, bounds .overflowed-within);
+            overflows = omega (arith, small-stats (v .engine .stats) (passed .stats) .«dropped_overflow», decide-counts (v .engine) now (length bytes) .overflow, ap (λ (x : Decided). x .engine .stats .«dropped_overflow») ed, ap (λ (x : Moving). x .stats .«dropped_overflow») md, ap (λ (x : After Admitted). x .gives .overflowed) ea, bounds .overflowed-within);
             resets = omega (arith, small-sends (v .accounts) (passed .accounts) .«tcp_rst_kills», ap (λ (x : After Admitted). x .gives .resets) ea, bounds .resets-within);
             torn = omega (arith, counter-below (v .torn) (passed .torn), ap (λ (x : After Admitted). x .gives .torn) ea, bounds .torn-within);
           }

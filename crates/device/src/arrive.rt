@@ -3,13 +3,18 @@ ghost use mathlib.Core.Path.{_≡_};
 ghost use Prim.Native.Nat.{_+_, _<_, _^_};
 ghost use Rattle.queue.specs.Refusals.{slotWidth};
 ghost use Rattle.queue.specs.Tables.{tables, after};
-ghost use Rattle.device.specs.Arrive.{overflowsOf, resetsOf, answerOf, settledOf, notArrived, arriveOf};
+ghost use Rattle.engine.specs.Changes.{withOthers};
+ghost use Rattle.device.specs.Arrive.{overflowsOf, resetsOf, settledOf, notArrived, arriveOf};
+ghost use Rattle.device.specs.Parts.{movingOf, movedOf, decidedWith, answerBy};
 use crate::answers::ArriveAnswer;
 use crate::answers::Arrived;
 use crate::device::Device;
+use accounts::DirectionStats;
 use accounts::SendAccountant;
 use admission::Admitted;
+use draws::Rng;
 use engine::ArrivalEngine;
+use steps::Decision;
 
 // An arrival that is refused.
 fn not_arrived(device: Device, number: u32) -> Arrived
@@ -21,14 +26,76 @@ fn not_arrived(device: Device, number: u32) -> Arrived
     }
 }
 
-// The engine with so many copies more that a full queue turned away.
-fn overflows(mut engine: ArrivalEngine, copies: u64) -> ArrivalEngine
-    requires { ⌜ engine .stats .«dropped_overflow» + copies < 2 ^ 64 ⌝ }
-    ensures { λ r. ⌜ r ≡ overflowsOf engine copies ⌝ }
+// The parts of the engine that an arrival moves, and its decision. The settings stay out, so that their lists are not copied with each arrival.
+pub(crate) struct Moving {
+    pub rng: Rng,
+    pub ge_bad: bool,
+    pub tokens: f64,
+    pub last_refill_ms: f64,
+    pub stats: DirectionStats,
+    pub decision: Decision,
+}
+
+// What a decided arrival moved.
+fn moving_of(decided: engine::Arrived) -> Moving
+    ensures { λ r. ⌜ r ≡ movingOf decided ⌝ }
 {
-    let mut stats = engine.stats;
-    stats.dropped_overflow += copies;
-    engine.stats = stats;
+    let engine = decided.engine;
+    let rng = engine.rng;
+    let stats = engine.stats;
+    let decision = decided.decision;
+    Moving {
+        rng,
+        ge_bad: engine.ge_bad,
+        tokens: engine.tokens,
+        last_refill_ms: engine.last_refill_ms,
+        stats,
+        decision,
+    }
+}
+
+// The statistics with so many copies more that a full queue turned away. Every field is named: a part that is copied whole keeps the compiler from leaving
+// copies of the device out.
+fn overflows(s: DirectionStats, copies: u64) -> DirectionStats
+    requires { ⌜ s .«dropped_overflow» + copies < 2 ^ 64 ⌝ }
+    ensures { λ r. ⌜ r ≡ withOthers s (s .«dropped_overflow» + copies) (s .«nat_rebinds») ⌝ }
+{
+    let hist = s.hist;
+    DirectionStats {
+        received_pkts: s.received_pkts,
+        received_bytes: s.received_bytes,
+        sent_pkts: s.sent_pkts,
+        sent_bytes: s.sent_bytes,
+        dropped_random: s.dropped_random,
+        dropped_ge: s.dropped_ge,
+        dropped_mtu: s.dropped_mtu,
+        dropped_blackout: s.dropped_blackout,
+        dropped_overflow: s.dropped_overflow + copies,
+        duplicates: s.duplicates,
+        reorder_hits: s.reorder_hits,
+        rate_deferred: s.rate_deferred,
+        nat_rebinds: s.nat_rebinds,
+        tcp_rst_kills: s.tcp_rst_kills,
+        latency_count: s.latency_count,
+        latency_sum_ms: s.latency_sum_ms,
+        latency_min_ms: s.latency_min_ms,
+        latency_max_ms: s.latency_max_ms,
+        hist,
+    }
+}
+
+// The engine with what an arrival moved, and so many copies more that overflowed.
+fn moved(mut engine: ArrivalEngine, moving: Moving, overflowed: u64) -> ArrivalEngine
+    requires { ⌜ moving .stats .«dropped_overflow» + overflowed < 2 ^ 64 ⌝ }
+    ensures { λ r. ⌜ r ≡ overflowsOf (movedOf engine moving) overflowed ⌝ }
+{
+    let rng = moving.rng;
+    let stats = moving.stats;
+    engine.rng = rng;
+    engine.ge_bad = moving.ge_bad;
+    engine.tokens = moving.tokens;
+    engine.last_refill_ms = moving.last_refill_ms;
+    engine.stats = overflows(stats, overflowed);
     engine
 }
 
@@ -42,13 +109,12 @@ fn resets(mut accounts: SendAccountant, n: u64) -> SendAccountant
 }
 
 // The answer: the decision and what was counted, or 26.
-fn answer(decided: engine::Arrived, admitted: Admitted) -> ArriveAnswer
-    ensures { λ r. ⌜ r ≡ answerOf decided admitted ⌝ }
+fn answer(decision: Decision, admitted: Admitted) -> ArriveAnswer
+    ensures { λ r. ⌜ r ≡ answerBy decision admitted ⌝ }
 {
     if admitted.number != 0 {
         return ArriveAnswer::Refused(admitted.number);
     }
-    let decision = decided.decision;
     ArriveAnswer::Decided {
         decision,
         entered: admitted.entered,
@@ -58,22 +124,23 @@ fn answer(decided: engine::Arrived, admitted: Admitted) -> ArriveAnswer
 }
 
 // The device after an arrival that was decided, with what it did to the queue.
-fn settled(mut device: Device, decided: engine::Arrived, admitted: Admitted) -> Arrived
-    requires { ⌜ decided .engine .stats .«dropped_overflow» + admitted .overflowed < 2 ^ 64 ⌝ }
+fn settled(mut device: Device, moving: Moving, admitted: Admitted) -> Arrived
+    requires { ⌜ moving .stats .«dropped_overflow» + admitted .overflowed < 2 ^ 64 ⌝ }
     requires { ⌜ device .accounts .«tcp_rst_kills» + admitted .resets < 2 ^ 64 ⌝ }
     requires { ⌜ device .torn + admitted .torn < 2 ^ 64 ⌝ }
-    ensures { λ r. ⌜ r ≡ settledOf device decided admitted ⌝ }
+    ensures { λ r. ⌜ r ≡ settledOf device (decidedWith (device .engine) moving) admitted ⌝ }
 {
-    let engine = decided.engine;
+    let engine = device.engine;
     let accounts = device.accounts;
     let queue = admitted.queue;
-    device.engine = overflows(engine, admitted.overflowed);
+    let decision = moving.decision;
+    device.engine = moved(engine, moving, admitted.overflowed);
     device.queue = queue;
     device.accounts = resets(accounts, admitted.resets);
     device.torn += admitted.torn;
     Arrived {
         device,
-        answer: answer(decided, admitted),
+        answer: answer(decision, admitted),
     }
 }
 
@@ -119,6 +186,9 @@ impl Device {
         let engine = self.engine;
         let decided = engine.decide_unchecked(now_ms, bytes.len());
         let decision = decided.decision;
+        let moving = moving_of(decided);
+        // The device moves on between the two halves of the way: over the whole way at once the compiler would not see that its lists stay the same.
+        let device = self;
         let admitted = admission::follow(
             queue,
             win,
@@ -135,6 +205,6 @@ impl Device {
             route,
             bytes,
         );
-        settled(self, decided, admitted)
+        settled(device, moving, admitted)
     }
 }

@@ -3,50 +3,73 @@ ghost use mathlib.Core.Path.{_≡_};
 ghost use Rattle.queue.specs.Refusals.{slotWidth};
 ghost use Rattle.queue.specs.Tables.{tables, after};
 ghost use Rattle.queue.specs.Calls.{payloadOf};
-ghost use Rattle.device.specs.Release.{notReleased, accountedOf, sentOf, releaseOf};
+ghost use Rattle.device.specs.Release.{releaseOf};
+ghost use Rattle.device.specs.Parts.{leaving, toldBy, leavingAccounted, leavingOf};
 use crate::answers::Released;
 use crate::device::Device;
 use accounts::Outcome;
+use accounts::SendAccountant;
 use numbers::REFUSED_KEEPING;
+use queue::ImpairQueue;
 use queue::Queued;
 use queue::ReleaseAnswer;
 
-// A release that hands out no copy.
-fn not_released(device: Device, answer: ReleaseAnswer) -> Released
-    ensures { λ r. ⌜ r ≡ notReleased device answer ⌝ }
-{
-    Released { device, answer }
+// What a release leaves of the queue and the accounts, and its answer. The settings stay out, so that their lists are not copied with each release.
+pub(crate) struct Leaving {
+    pub queue: ImpairQueue,
+    pub accounts: SendAccountant,
+    pub answer: ReleaseAnswer,
 }
 
-// The copy is accounted with its latency; a length that 22 refuses was altered.
-fn accounted(mut device: Device, copy: Queued, now_ms: f64) -> Released
-    ensures { λ r. ⌜ r ≡ accountedOf device copy «now_ms» ⌝ }
+// The answer once the accounts have answered; a length that 22 refuses was altered.
+fn told(outcome: Outcome, copy: Queued) -> ReleaseAnswer
+    ensures { λ r. ⌜ r ≡ toldBy outcome copy ⌝ }
 {
-    let accounts = device.accounts;
-    let sent = accounts.on_send(copy.length, now_ms - copy.arrival_ms);
-    let after = sent.accountant;
-    let outcome = sent.answer;
-    device.accounts = after;
     match outcome {
-        Outcome::Done => Released {
-            device,
-            answer: ReleaseAnswer::Released(copy),
-        },
-        Outcome::Refused(_) => not_released(device, ReleaseAnswer::Refused(REFUSED_KEEPING)),
+        Outcome::Done => ReleaseAnswer::Released(copy),
+        Outcome::Refused(_) => ReleaseAnswer::Refused(REFUSED_KEEPING),
     }
 }
 
-// The device after the queue has answered.
-fn sent(mut device: Device, released: queue::Released, now_ms: f64) -> Released
-    ensures { λ r. ⌜ r ≡ sentOf device released «now_ms» ⌝ }
+// The copy is accounted with its latency.
+fn accounted(queue: ImpairQueue, accounts: SendAccountant, copy: Queued, now_ms: f64) -> Leaving
+    ensures { λ r. ⌜ r ≡ leavingAccounted queue accounts copy «now_ms» ⌝ }
+{
+    let sent = accounts.on_send(copy.length, now_ms - copy.arrival_ms);
+    let after = sent.accountant;
+    let outcome = sent.answer;
+    Leaving {
+        queue,
+        accounts: after,
+        answer: told(outcome, copy),
+    }
+}
+
+// A release that hands out no copy.
+fn not_sent(queue: ImpairQueue, accounts: SendAccountant, answer: ReleaseAnswer) -> Leaving
+    ensures { λ r. ⌜ r ≡ leaving queue accounts answer ⌝ }
+{
+    Leaving {
+        queue,
+        accounts,
+        answer,
+    }
+}
+
+// What is left after the queue has answered.
+fn sent(released: queue::Released, accounts: SendAccountant, now_ms: f64) -> Leaving
+    ensures { λ r. ⌜ r ≡ leavingOf released accounts «now_ms» ⌝ }
 {
     let queue = released.queue;
     let answer = released.answer;
-    device.queue = queue;
     match answer {
-        ReleaseAnswer::Released(copy) => accounted(device, copy, now_ms),
-        ReleaseAnswer::NoneDue => not_released(device, ReleaseAnswer::NoneDue),
-        ReleaseAnswer::Refused(_) => not_released(device, ReleaseAnswer::Refused(REFUSED_KEEPING)),
+        ReleaseAnswer::Released(copy) => accounted(queue, accounts, copy, now_ms),
+        ReleaseAnswer::NoneDue => not_sent(queue, accounts, ReleaseAnswer::NoneDue),
+        ReleaseAnswer::Refused(_) => not_sent(
+            queue,
+            accounts,
+            ReleaseAnswer::Refused(REFUSED_KEEPING),
+        ),
     }
 }
 
@@ -60,7 +83,7 @@ pub fn payload(store: &[u8], slot: u32, length: usize) -> &[u8]
 impl Device {
     // The least copy with a due of at most `now_ms` leaves and is accounted; none due, or a refusal by 23, 21, 25 or 26.
     pub fn release(
-        self,
+        mut self,
         win: &mut [u32],
         free: &mut [u32],
         dues: &mut [f64],
@@ -88,7 +111,10 @@ impl Device {
         );
         let number = self.call_refusal(memory, numbers::is_instant(now_ms), true);
         if number != 0 {
-            return not_released(self, ReleaseAnswer::Refused(number));
+            return Released {
+                device: self,
+                answer: ReleaseAnswer::Refused(number),
+            };
         }
         let released = queue.release(
             win,
@@ -102,6 +128,16 @@ impl Device {
             store,
             now_ms,
         );
-        sent(self, released, now_ms)
+        let accounts = self.accounts;
+        let left = sent(released, accounts, now_ms);
+        let after = left.queue;
+        let sends = left.accounts;
+        let answer = left.answer;
+        self.queue = after;
+        self.accounts = sends;
+        Released {
+            device: self,
+            answer,
+        }
     }
 }

@@ -38,11 +38,11 @@ abbrev μ-loop : tie.MeasureT-loop
 loop-holds : tie.Need-loop-holds Inv-loop2 μ-loop2 Inv-loop μ-loop
 loop-holds c = search needs
 
-cast-payload : tie.Need-cast-payload Inv-loop2 μ-loop2 Inv-loop μ-loop
-cast-payload c = search needs
+cast-part : tie.Need-cast-part Inv-loop2 μ-loop2 Inv-loop μ-loop
+cast-part c = search needs
 
-payload-requires : tie.Need-payload-requires Inv-loop2 μ-loop2 Inv-loop μ-loop
-payload-requires c κs = search needs
+part-requires : tie.Need-part-requires Inv-loop2 μ-loop2 Inv-loop μ-loop
+part-requires c κs = search needs
 
 arrive-requires : tie.Need-arrive-requires Inv-loop2 μ-loop2 Inv-loop μ-loop
 arrive-requires c κs = search needs
@@ -145,8 +145,8 @@ run-spec =
     Inv-loop
     μ-loop
     loop-holds
-    cast-payload
-    payload-requires
+    cast-part
+    part-requires
     arrive-requires
     of-arrival-requires
     add-requires

@@ -13,23 +13,23 @@ accounted-requires c κs = search needs
 enum-told : tie.Need-enum-told
 enum-told c = search needs
 
-not-released-requires : tie.Need-not-released-requires
-not-released-requires c κs = search needs
+not-sent-requires : tie.Need-not-sent-requires
+not-sent-requires c κs = search needs
 
 enum-told-2 : tie.Need-enum-told-2
 enum-told-2 c = search needs
 
-not-released-requires-2 : tie.Need-not-released-requires-2
-not-released-requires-2 c κs = search needs
+not-sent-requires-2 : tie.Need-not-sent-requires-2
+not-sent-requires-2 c κs = search needs
 
 returns : tie.Need-returns
-returns c = sent-copy (c .before .before .before .before .before .args .device) (c .before .before .before .before .before .args .released) _ _ _ (c .before .before .answer .given .1) (c .accounted .ensures)
+returns c = sent-copy (c .before .before .before .before .before .args .released) _ _ _ _ (c .before .before .answer .given .1) (c .accounted .ensures)
 
 returns-2 : tie.Need-returns-2
-returns-2 c = sent-none (c .before .before .before .before .args .device) (c .before .before .before .before .args .released) _ _ (c .before .enum-told .given .1) (c .not-released .ensures)
+returns-2 c = sent-none (c .before .before .before .before .args .released) _ _ _ (c .before .enum-told .given .1) (c .not-sent .ensures)
 
 returns-3 : tie.Need-returns-3
-returns-3 c = sent-refused (c .before .before .before .before .args .device) (c .before .before .before .before .args .released) _ _ _ (c .before .enum-told2 .given .1) (c .not-released2 .ensures)
+returns-3 c = sent-refused (c .before .before .before .before .args .released) _ _ _ _ (c .before .enum-told2 .given .1) (c .not-sent2 .ensures)
 
 pub sent-spec : {M : Type 1} → statement M
 sent-spec =
@@ -38,9 +38,9 @@ sent-spec =
     enum-known-answer
     accounted-requires
     enum-told
-    not-released-requires
+    not-sent-requires
     enum-told-2
-    not-released-requires-2
+    not-sent-requires-2
     returns
     returns-2
     returns-3)

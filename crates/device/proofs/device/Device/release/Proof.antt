@@ -1,5 +1,6 @@
 -- Each return by its step.
-use Rattle.device.proofs.ReleaseSteps.{release-refused, release-done}
+use Rattle.device.proofs.ReleaseSteps.{release-refused, release-done, left-is}
+use mathlib.Core.Path.{refl}
 use borrow.Author.Needs.{needs}
 use Rattle.device.proofs.device.Device.release.Statement.{statement}
 use Rattle.device.proofs.device.Device.release.Tie as tie
@@ -13,11 +14,8 @@ is-instant-requires c κs = search needs
 call-refusal-requires : tie.Need-call-refusal-requires
 call-refusal-requires c κs = search needs
 
-not-released-requires : tie.Need-not-released-requires
-not-released-requires c κs = search needs
-
 returns : tie.Need-returns
-returns c = release-refused _ _ _ _ _ _ _ (c .before .before .before .before .has-memory .ensures) (c .before .before .before .is-instant .ensures) (c .before .before .call-refusal .ensures) _ (c .before .if1 .taken) (c .not-released .ensures)
+returns c = release-refused _ _ _ _ _ _ _ (c .before .before .before .has-memory .ensures) (c .before .before .is-instant .ensures) (c .before .call-refusal .ensures) _ (c .if1 .taken) refl
 
 release-requires : tie.Need-release-requires
 release-requires c κs = search needs
@@ -38,7 +36,7 @@ same-length-4 : tie.Need-same-length-4
 same-length-4 c = search needs
 
 returns-2 : tie.Need-returns-2
-returns-2 c = release-done _ _ _ _ _ _ _ (c .before .before .before .before .before .before .before .before .before .before .before .before .before .before .before .before .before .has-memory .ensures) (c .before .before .before .before .before .before .before .before .before .before .before .before .before .before .before .before .is-instant .ensures) (c .before .before .before .before .before .before .before .before .before .before .before .before .before .before .before .call-refusal .ensures) _ _ _ (c .before .before .before .before .before .before .before .before .before .before .before .before .before .before .if1 .left) (c .before .before .before .before .before .before .before .before .before .release .ensures) (c .sent .ensures)
+returns-2 c = release-done _ _ _ _ _ _ _ (c .before .before .before .before .before .before .before .before .before .before .before .before .before .before .before .before .before .before .before .before .has-memory .ensures) (c .before .before .before .before .before .before .before .before .before .before .before .before .before .before .before .before .before .before .before .is-instant .ensures) (c .before .before .before .before .before .before .before .before .before .before .before .before .before .before .before .before .before .before .call-refusal .ensures) _ _ _ (c .before .before .before .before .before .before .before .before .before .before .before .before .before .before .before .before .before .if1 .left) (c .before .before .before .before .before .before .before .before .before .before .before .before .release .ensures) (left-is (c .before .before .before .before .before .before .before .before .before .before .before .before .before .before .before .before .before .before .before .before .before .before .before .before .before .before .before .before .before .before .before .args .self) _ _ _ (c .before .before .sent .ensures))
 
 pub release-spec : {M : Type 1} → statement M
 release-spec =
@@ -47,7 +45,6 @@ release-spec =
     has-memory-requires
     is-instant-requires
     call-refusal-requires
-    not-released-requires
     returns
     release-requires
     sent-requires
