@@ -8,6 +8,7 @@ use lib.ListN.{length}
 use Rattle.numbers.specs.Instant.{isInstantOf}
 use Rattle.numbers.specs.Limits.{isLengthOf}
 use Rattle.accounts.specs.declared.accountant.SendAccountant.{SendAccountant}
+use Rattle.steps.specs.declared.decision.Decision.{Decision}
 use Rattle.engine.specs.Changes.{withOthers}
 use Rattle.engine.specs.Decide.{decideUncheckedOf}
 use Rattle.engine.specs.declared.answers.Arrived.{Arrived as Decided}
@@ -49,14 +50,14 @@ resetsOf a n =
     }
 
 -- "The answer says the decision and the numbers of copies entered, overflowed and torn by this call", or 26
-unfoldable pub answerOf : Decided → Admitted → ArriveAnswer
-answerOf d a = cond (eqb (a .number) 0) (answer.Decided (d .decision) (a .entered) (a .overflowed) (a .torn)) (answer.Refused (a .number))
+unfoldable pub answerOf : Decision → Admitted → ArriveAnswer
+answerOf d a = cond (eqb (a .number) 0) (answer.Decided d (a .entered) (a .overflowed) (a .torn)) (answer.Refused (a .number))
 
 unfoldable pub settledOf : Device → Decided → Admitted → Arrived
 settledOf v d a =
     record {
       device = record { engine = overflowsOf (d .engine) (a .overflowed); queue = a .queue; accounts = resetsOf (v .accounts) (a .resets); torn = v .torn + a .torn };
-      answer = answerOf d a;
+      answer = answerOf (d .decision) a;
     }
 
 abbrev pub notArrived : Device → ℕ → Arrived

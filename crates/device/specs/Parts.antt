@@ -1,13 +1,10 @@
 -- The parts that an arrival and a release change, apart from the rest of the device.
-use mathlib.Core.Bool.{cond}
-use lib.Dec.{eqb}
 use lib.Ieee.{Float, binary64, sub}
 use Rattle.numbers.specs.Refusals.{refusedKeeping}
 use Rattle.accounts.specs.Calls.{onSendOf}
 use Rattle.accounts.specs.declared.accountant.SendAccountant.{SendAccountant}
 use Rattle.accounts.specs.declared.answers.Outcome.{Outcome}
 use Rattle.accounts.specs.declared.answers.Outcome.the-variants as outcome
-use Rattle.steps.specs.declared.decision.Decision.{Decision}
 use Rattle.engine.specs.declared.answers.Arrived.{Arrived as Decided}
 use Rattle.engine.specs.declared.engine.ArrivalEngine.{ArrivalEngine}
 use Rattle.queue.specs.declared.answers.Queued.{Queued}
@@ -15,9 +12,6 @@ use Rattle.queue.specs.declared.answers.ReleaseAnswer.{ReleaseAnswer}
 use Rattle.queue.specs.declared.answers.ReleaseAnswer.the-variants as release
 use Rattle.queue.specs.declared.answers.Released.{Released as Left}
 use Rattle.queue.specs.declared.queue.ImpairQueue.{ImpairQueue}
-use Rattle.admission.specs.declared.admitted.Admitted.{Admitted}
-use Rattle.device.specs.declared.answers.ArriveAnswer.{ArriveAnswer}
-use Rattle.device.specs.declared.answers.ArriveAnswer.the-variants as answer
 use Rattle.device.specs.declared.answers.Released.{Released}
 use Rattle.device.specs.declared.arrive.Moving.{Moving}
 use Rattle.device.specs.declared.device.Device.{Device}
@@ -50,9 +44,6 @@ movedOf e m =
 
 abbrev pub decidedWith : ArrivalEngine → Moving → Decided
 decidedWith e m = record { engine = movedOf e m; decision = m .decision }
-
-unfoldable pub answerBy : Decision → Admitted → ArriveAnswer
-answerBy d a = cond (eqb (a .number) 0) (answer.Decided d (a .entered) (a .overflowed) (a .torn)) (answer.Refused (a .number))
 
 abbrev pub leaving : ImpairQueue → SendAccountant → ReleaseAnswer → Leaving
 leaving q a x = record { queue = q; accounts = a; answer = x }

@@ -4,8 +4,8 @@ ghost use Prim.Native.Nat.{_+_, _<_, _^_};
 ghost use Rattle.queue.specs.Refusals.{slotWidth};
 ghost use Rattle.queue.specs.Tables.{tables, after};
 ghost use Rattle.engine.specs.Changes.{withOthers};
-ghost use Rattle.device.specs.Arrive.{overflowsOf, resetsOf, settledOf, notArrived, arriveOf};
-ghost use Rattle.device.specs.Parts.{movingOf, movedOf, decidedWith, answerBy};
+ghost use Rattle.device.specs.Arrive.{overflowsOf, resetsOf, answerOf, settledOf, notArrived, arriveOf};
+ghost use Rattle.device.specs.Parts.{movingOf, movedOf, decidedWith};
 use crate::answers::ArriveAnswer;
 use crate::answers::Arrived;
 use crate::device::Device;
@@ -110,7 +110,7 @@ fn resets(mut accounts: SendAccountant, n: u64) -> SendAccountant
 
 // The answer: the decision and what was counted, or 26.
 fn answer(decision: Decision, admitted: Admitted) -> ArriveAnswer
-    ensures { λ r. ⌜ r ≡ answerBy decision admitted ⌝ }
+    ensures { λ r. ⌜ r ≡ answerOf decision admitted ⌝ }
 {
     if admitted.number != 0 {
         return ArriveAnswer::Refused(admitted.number);

@@ -1,6 +1,5 @@
 -- The parts by their contracts.
-use Rattle.device.specs.Arrive.{settledOf, answerOf}
-use Rattle.device.specs.Parts.{answerBy}
+use Rattle.device.specs.Arrive.{settledOf}
 use borrow.Author.Needs.{needs}
 use Rattle.device.proofs.arrive.settled.Statement.{statement}
 use Rattle.device.proofs.arrive.settled.Tie as tie
@@ -18,7 +17,7 @@ answer-requires : tie.Need-answer-requires
 answer-requires c κs = search needs
 
 returns : tie.Need-returns
-unfolding settledOf answerOf answerBy
+unfolding settledOf
 returns c = rw (c .answer .ensures, c .before .before .before .resets .ensures, c .before .before .before .before .moved .ensures)
 
 pub settled-spec : {M : Type 1} → statement M
