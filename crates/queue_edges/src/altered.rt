@@ -1,6 +1,4 @@
 // Calls on states and memory that were altered: a refused call changes nothing, and no call changes what was not lent.
-ghost use lib.ListN.{length};
-ghost use Rattle.queue_edges.specs.Room.{room};
 use crate::chosen;
 use crate::judged;
 use crate::scatter;
@@ -37,19 +35,17 @@ pub fn run() {
 
 // Makes 4,000 calls, each on what the last one left, after it was altered.
 fn counted(
-    win: &mut [u32],
-    free: &mut [u32],
-    dues: &mut [f64],
-    seqs: &mut [u64],
-    arrivals: &mut [f64],
-    routes: &mut [u64],
-    ids: &mut [u32],
-    lengths: &mut [u32],
-    store: &mut [u8],
-    bytes: &mut [u8],
-) -> Tally
-    requires { ⌜ room (length (now win)) (length (now free)) (length (now dues)) (length (now seqs)) (length (now arrivals)) (length (now routes)) (length (now ids)) (length (now lengths)) (length (now store)) ⌝ }
-{
+    win: &mut [u32; 24],
+    free: &mut [u32; 24],
+    dues: &mut [f64; 24],
+    seqs: &mut [u64; 24],
+    arrivals: &mut [f64; 24],
+    routes: &mut [u64; 24],
+    ids: &mut [u32; 24],
+    lengths: &mut [u32; 24],
+    store: &mut [u8; 16400],
+    bytes: &mut [u8; 4096],
+) -> Tally {
     let mut queue = states::empty(0);
     let mut tally = Tally::new();
     for turn in 0..4000u64 {

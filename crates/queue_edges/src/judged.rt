@@ -1,6 +1,4 @@
 // One call, and whether it kept what it had to keep.
-ghost use lib.ListN.{length};
-ghost use Rattle.queue_edges.specs.Room.{room};
 use crate::lend;
 use crate::lend::Lent;
 use crate::marks;
@@ -19,20 +17,18 @@ pub struct Judged {
 pub(crate) fn make(
     queue: ImpairQueue,
     lent: Lent,
-    win: &mut [u32],
-    free: &mut [u32],
-    dues: &mut [f64],
-    seqs: &mut [u64],
-    arrivals: &mut [f64],
-    routes: &mut [u64],
-    ids: &mut [u32],
-    lengths: &mut [u32],
-    store: &mut [u8],
+    win: &mut [u32; 24],
+    free: &mut [u32; 24],
+    dues: &mut [f64; 24],
+    seqs: &mut [u64; 24],
+    arrivals: &mut [f64; 24],
+    routes: &mut [u64; 24],
+    ids: &mut [u32; 24],
+    lengths: &mut [u32; 24],
+    store: &mut [u8; 16400],
     bytes: &[u8],
     call: Call,
-) -> Judged
-    requires { ⌜ room (length (now win)) (length (now free)) (length (now dues)) (length (now seqs)) (length (now arrivals)) (length (now routes)) (length (now ids)) (length (now lengths)) (length (now store)) ⌝ }
-{
+) -> Judged {
     let before = marks::of(
         lent,
         win,

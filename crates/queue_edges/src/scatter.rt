@@ -1,14 +1,14 @@
 // Memory is altered: all tables are drawn anew, or one entry is.
 pub fn some(
-    win: &mut [u32],
-    free: &mut [u32],
-    dues: &mut [f64],
-    seqs: &mut [u64],
-    arrivals: &mut [f64],
-    routes: &mut [u64],
-    ids: &mut [u32],
-    lengths: &mut [u32],
-    store: &mut [u8],
+    win: &mut [u32; 24],
+    free: &mut [u32; 24],
+    dues: &mut [f64; 24],
+    seqs: &mut [u64; 24],
+    arrivals: &mut [f64; 24],
+    routes: &mut [u64; 24],
+    ids: &mut [u32; 24],
+    lengths: &mut [u32; 24],
+    store: &mut [u8; 16400],
     seed: u64,
 ) {
     match draws::mix(seed, 10) % 4 {
@@ -30,15 +30,15 @@ pub fn some(
 }
 
 fn all(
-    win: &mut [u32],
-    free: &mut [u32],
-    dues: &mut [f64],
-    seqs: &mut [u64],
-    arrivals: &mut [f64],
-    routes: &mut [u64],
-    ids: &mut [u32],
-    lengths: &mut [u32],
-    store: &mut [u8],
+    win: &mut [u32; 24],
+    free: &mut [u32; 24],
+    dues: &mut [f64; 24],
+    seqs: &mut [u64; 24],
+    arrivals: &mut [f64; 24],
+    routes: &mut [u64; 24],
+    ids: &mut [u32; 24],
+    lengths: &mut [u32; 24],
+    store: &mut [u8; 16400],
     seed: u64,
 ) {
     words(win, draws::mix(seed, 11));

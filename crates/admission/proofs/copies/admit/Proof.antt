@@ -1,4 +1,6 @@
 -- The first copy, then the second on what it left.
+use Rattle.queue.specs.Refusals.{slotWidth}
+use Rattle.queue.specs.Tables.{tables}
 use Rattle.admission.proofs.CopySteps.{one-small, copies-is}
 use mathlib.Core.Path.{_∙_}
 use borrow.Author.Needs.{needs}
@@ -36,7 +38,9 @@ same-length-8 : tie.Need-same-length-8
 same-length-8 c = c .before .before .before .before .before .before .before .before .before .before .before .before .before .before .before .before .second .kept .1 .1 .1 .1 .1 .1 .1 .1 .1 .0 ∙ c .before .before .before .before .before .before .before .before .before .before .before .before .before .before .before .before .before .before .before .before .before .before .before .before .before .before .before .before .before .before .before .before .before .before .before .before .before .before .before .before .before .first .kept .1 .1 .1 .1 .1 .1 .1 .1 .1 .0
 
 returns : tie.Need-returns
-returns c = copies-is _ _ _ _ _ _ _ _ (c .before .before .before .before .before .before .before .before .before .before .before .before .before .before .before .before .before .before .before .before .before .before .before .before .before .before .before .before .before .before .before .before .before .before .before .before .before .before .before .before .before .first .ensures) _ _ (c .before .before .before .before .before .before .before .before .before .before .before .before .before .before .before .before .second .ensures)
+returns c =
+    let a = c .before .before .before .before .before .before .before .before .before .before .before .before .before .before .before .before .before .before .before .before .before .before .before .before .before .before .before .before .before .before .before .before .before .before .before .before .before .before .before .before .before .before .before .before .before .before .before .before .before .before .before .before .before .before .before .before .before .before .before .before .args in
+    copies-is slotWidth (tables (a .win .now) (a .free .now) (a .dues .now) (a .seqs .now) (a .arrivals .now) (a .routes .now) (a .copy-ids .now) (a .lengths .now) (a .store .now)) (a .due) (a .now-ms) (a .route) (a .bytes .now) (a .queue) _ (c .before .before .before .before .before .before .before .before .before .before .before .before .before .before .before .before .before .before .before .before .before .before .before .before .before .before .before .before .before .before .before .before .before .before .before .before .before .before .before .before .before .first .ensures) _ _ (c .before .before .before .before .before .before .before .before .before .before .before .before .before .before .before .before .second .ensures)
 
 pub admit-spec : {M : Type 1} → statement M
 admit-spec =

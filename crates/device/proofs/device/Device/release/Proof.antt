@@ -1,5 +1,7 @@
 -- Each return by its step.
 use Rattle.device.proofs.ReleaseSteps.{release-refused, release-done, left-is}
+use Rattle.queue.specs.Refusals.{slotWidth}
+use Rattle.queue.specs.Tables.{tables}
 use mathlib.Core.Path.{refl}
 use borrow.Author.Needs.{needs}
 use Rattle.device.proofs.device.Device.release.Statement.{statement}
@@ -15,7 +17,9 @@ call-refusal-requires : tie.Need-call-refusal-requires
 call-refusal-requires c κs = search needs
 
 returns : tie.Need-returns
-returns c = release-refused _ _ _ _ _ _ _ (c .before .before .before .has-memory .ensures) (c .before .before .is-instant .ensures) (c .before .call-refusal .ensures) _ (c .if1 .taken) refl
+returns c =
+    let a = c .before .before .before .before .before .before .before .before .before .before .before .before .before .before .args in
+    release-refused slotWidth (a .self) (tables (a .win .now) (a .free .now) (a .dues .now) (a .seqs .now) (a .arrivals .now) (a .routes .now) (a .copy-ids .now) (a .lengths .now) (a .store .now)) (a .now-ms) _ _ _ (c .before .before .before .has-memory .ensures) (c .before .before .is-instant .ensures) (c .before .call-refusal .ensures) _ (c .if1 .taken) refl
 
 release-requires : tie.Need-release-requires
 release-requires c κs = search needs
@@ -36,7 +40,9 @@ same-length-4 : tie.Need-same-length-4
 same-length-4 c = search needs
 
 returns-2 : tie.Need-returns-2
-returns-2 c = release-done _ _ _ _ _ _ _ (c .before .before .before .before .before .before .before .before .before .before .before .before .before .before .before .before .before .before .before .before .has-memory .ensures) (c .before .before .before .before .before .before .before .before .before .before .before .before .before .before .before .before .before .before .before .is-instant .ensures) (c .before .before .before .before .before .before .before .before .before .before .before .before .before .before .before .before .before .before .call-refusal .ensures) _ _ _ (c .before .before .before .before .before .before .before .before .before .before .before .before .before .before .before .before .before .if1 .left) (c .before .before .before .before .before .before .before .before .before .before .before .before .release .ensures) (left-is (c .before .before .before .before .before .before .before .before .before .before .before .before .before .before .before .before .before .before .before .before .before .before .before .before .before .before .before .before .before .before .before .args .self) _ _ _ (c .before .before .sent .ensures))
+returns-2 c =
+    let a = c .before .before .before .before .before .before .before .before .before .before .before .before .before .before .before .before .before .before .before .before .before .before .before .before .before .before .before .before .before .before .before .args in
+    release-done slotWidth (a .self) (tables (a .win .now) (a .free .now) (a .dues .now) (a .seqs .now) (a .arrivals .now) (a .routes .now) (a .copy-ids .now) (a .lengths .now) (a .store .now)) (a .now-ms) _ _ _ (c .before .before .before .before .before .before .before .before .before .before .before .before .before .before .before .before .before .before .before .before .has-memory .ensures) (c .before .before .before .before .before .before .before .before .before .before .before .before .before .before .before .before .before .before .before .is-instant .ensures) (c .before .before .before .before .before .before .before .before .before .before .before .before .before .before .before .before .before .before .call-refusal .ensures) _ _ _ (c .before .before .before .before .before .before .before .before .before .before .before .before .before .before .before .before .before .if1 .left) (c .before .before .before .before .before .before .before .before .before .before .before .before .release .ensures) (left-is (c .before .before .before .before .before .before .before .before .before .before .before .before .before .before .before .before .before .before .before .before .before .before .before .before .before .before .before .before .before .before .before .args .self) _ _ _ (c .before .before .sent .ensures))
 
 pub release-spec : {M : Type 1} → statement M
 release-spec =

@@ -1,4 +1,6 @@
 -- Each return by its step. What is not refused has passed what the parts ask.
+use Rattle.queue.specs.Refusals.{slotWidth}
+use Rattle.queue.specs.Tables.{tables}
 use Rattle.queue.proofs.ReleaseSteps.{release-refused, release-empty, release-unfit, release-later, release-done}
 use Rattle.queue.proofs.RefusalSteps.{release-passed}
 use native.Mathlib.Omega.{arith}
@@ -20,13 +22,17 @@ stays-requires : tie.Need-stays-requires
 stays-requires c κs = search needs
 
 returns : tie.Need-returns
-returns c = release-refused _ _ _ _ _ _ _ (c .before .before .before .before .shortest .ensures) (c .before .before .before .has-room .ensures) (c .before .before .release-refusal .ensures) _ (c .before .if1 .taken) (c .stays .ensures)
+returns c =
+    let a = c .before .before .before .before .before .before .before .before .before .before .before .before .before .before .args in
+    release-refused slotWidth (a .self) (tables (a .win .now) (a .free .now) (a .dues .now) (a .seqs .now) (a .arrivals .now) (a .routes .now) (a .copy-ids .now) (a .lengths .now) (a .store .now)) (a .now-ms) _ _ _ (c .before .before .before .before .shortest .ensures) (c .before .before .before .has-room .ensures) (c .before .before .release-refusal .ensures) _ (c .before .if1 .taken) (c .stays .ensures)
 
 stays-requires-2 : tie.Need-stays-requires-2
 stays-requires-2 c κs = search needs
 
 returns-2 : tie.Need-returns-2
-returns-2 c = release-empty _ _ _ _ _ _ _ (c .before .before .before .before .before .before .shortest .ensures) (c .before .before .before .before .before .has-room .ensures) (c .before .before .before .before .release-refusal .ensures) _ (c .before .before .before .if1 .left) (c .before .if2 .taken) (c .stays2 .ensures)
+returns-2 c =
+    let a = c .before .before .before .before .before .before .before .before .before .before .before .before .before .before .before .before .args in
+    release-empty slotWidth (a .self) (tables (a .win .now) (a .free .now) (a .dues .now) (a .seqs .now) (a .arrivals .now) (a .routes .now) (a .copy-ids .now) (a .lengths .now) (a .store .now)) (a .now-ms) _ _ _ (c .before .before .before .before .before .before .shortest .ensures) (c .before .before .before .before .before .has-room .ensures) (c .before .before .before .before .release-refusal .ensures) _ (c .before .before .before .if1 .left) (c .before .if2 .taken) (c .stays2 .ensures)
 
 least-requires : tie.Need-least-requires
 least-requires c κs = search needs
@@ -38,7 +44,9 @@ same-length : tie.Need-same-length
 same-length c = search needs
 
 returns-3 : tie.Need-returns-3
-returns-3 c = release-unfit _ _ _ _ _ _ _ (c .before .before .before .before .before .before .before .before .before .before .shortest .ensures) (c .before .before .before .before .before .before .before .before .before .has-room .ensures) (c .before .before .before .before .before .before .before .before .release-refusal .ensures) _ (c .before .before .before .before .before .before .before .if1 .left) (c .before .before .before .before .before .if2 .left) (c .before .before .before .least .ensures) _ (c .before .if3 .taken) (c .stays3 .ensures)
+returns-3 c =
+    let a = c .before .before .before .before .before .before .before .before .before .before .before .before .before .before .before .before .before .before .before .before .args in
+    release-unfit slotWidth (a .self) (tables (a .win .now) (a .free .now) (a .dues .now) (a .seqs .now) (a .arrivals .now) (a .routes .now) (a .copy-ids .now) (a .lengths .now) (a .store .now)) (a .now-ms) _ _ _ (c .before .before .before .before .before .before .before .before .before .before .shortest .ensures) (c .before .before .before .before .before .before .before .before .before .has-room .ensures) (c .before .before .before .before .before .before .before .before .release-refusal .ensures) _ (c .before .before .before .before .before .before .before .if1 .left) (c .before .before .before .before .before .if2 .left) (c .before .before .before .least .ensures) _ (c .before .if3 .taken) (c .stays3 .ensures)
 
 cast-get-f64 : tie.Need-cast-get-f64
 cast-get-f64 c = search needs
@@ -62,10 +70,14 @@ same-length-5 : tie.Need-same-length-5
 same-length-5 c = search needs
 
 returns-5 : tie.Need-returns-5
-returns-5 c = release-later _ _ _ _ _ _ _ (c .before .before .before .before .before .before .before .before .before .before .before .before .before .shortest .ensures) (c .before .before .before .before .before .before .before .before .before .before .before .before .has-room .ensures) (c .before .before .before .before .before .before .before .before .before .before .before .release-refusal .ensures) _ (c .before .before .before .before .before .before .before .before .before .before .if1 .left) (c .before .before .before .before .before .before .before .before .if2 .left) (c .before .before .before .before .before .before .least .ensures) _ _ (c .before .before .before .before .if3 .left) (c .before .before .get-f64 .ensures) (c .before .if4 .left) (c .stays4 .ensures)
+returns-5 c =
+    let a = c .before .before .before .before .before .before .before .before .before .before .before .before .before .before .before .before .before .before .before .before .before .before .before .args in
+    release-later slotWidth (a .self) (tables (a .win .now) (a .free .now) (a .dues .now) (a .seqs .now) (a .arrivals .now) (a .routes .now) (a .copy-ids .now) (a .lengths .now) (a .store .now)) (a .now-ms) _ _ _ (c .before .before .before .before .before .before .before .before .before .before .before .before .before .shortest .ensures) (c .before .before .before .before .before .before .before .before .before .before .before .before .has-room .ensures) (c .before .before .before .before .before .before .before .before .before .before .before .release-refusal .ensures) _ (c .before .before .before .before .before .before .before .before .before .before .if1 .left) (c .before .before .before .before .before .before .before .before .if2 .left) (c .before .before .before .before .before .before .least .ensures) _ _ (c .before .before .before .before .if3 .left) (c .before .before .get-f64 .ensures) (c .before .if4 .left) (c .stays4 .ensures)
 
 returns-4 : tie.Need-returns-4
-returns-4 c = release-done _ _ _ _ _ _ _ (c .before .before .before .before .before .before .before .before .before .before .before .before .before .before .before .before .before .before .before .before .before .before .before .before .before .shortest .ensures) (c .before .before .before .before .before .before .before .before .before .before .before .before .before .before .before .before .before .before .before .before .before .before .before .before .has-room .ensures) (c .before .before .before .before .before .before .before .before .before .before .before .before .before .before .before .before .before .before .before .before .before .before .before .release-refusal .ensures) _ (c .before .before .before .before .before .before .before .before .before .before .before .before .before .before .before .before .before .before .before .before .before .before .if1 .left) (c .before .before .before .before .before .before .before .before .before .before .before .before .before .before .before .before .before .before .before .before .if2 .left) (c .before .before .before .before .before .before .before .before .before .before .before .before .before .before .before .before .before .before .least .ensures) _ _ (c .before .before .before .before .before .before .before .before .before .before .before .before .before .before .before .before .if3 .left) (c .before .before .before .before .before .before .before .before .before .before .before .before .before .before .get-f64 .ensures) (c .before .before .before .before .before .before .before .before .before .before .before .before .before .if4 .taken) (c .before .before .before .before .before .before .before .before .release-slot .ensures)
+returns-4 c =
+    let a = c .before .before .before .before .before .before .before .before .before .before .before .before .before .before .before .before .before .before .before .before .before .before .before .before .before .before .before .before .before .before .before .before .before .before .before .args in
+    release-done slotWidth (a .self) (tables (a .win .now) (a .free .now) (a .dues .now) (a .seqs .now) (a .arrivals .now) (a .routes .now) (a .copy-ids .now) (a .lengths .now) (a .store .now)) (a .now-ms) _ _ _ (c .before .before .before .before .before .before .before .before .before .before .before .before .before .before .before .before .before .before .before .before .before .before .before .before .before .shortest .ensures) (c .before .before .before .before .before .before .before .before .before .before .before .before .before .before .before .before .before .before .before .before .before .before .before .before .has-room .ensures) (c .before .before .before .before .before .before .before .before .before .before .before .before .before .before .before .before .before .before .before .before .before .before .before .release-refusal .ensures) _ (c .before .before .before .before .before .before .before .before .before .before .before .before .before .before .before .before .before .before .before .before .before .before .if1 .left) (c .before .before .before .before .before .before .before .before .before .before .before .before .before .before .before .before .before .before .before .before .if2 .left) (c .before .before .before .before .before .before .before .before .before .before .before .before .before .before .before .before .before .before .least .ensures) _ _ (c .before .before .before .before .before .before .before .before .before .before .before .before .before .before .before .before .if3 .left) (c .before .before .before .before .before .before .before .before .before .before .before .before .before .before .get-f64 .ensures) (c .before .before .before .before .before .before .before .before .before .before .before .before .before .if4 .taken) (c .before .before .before .before .before .before .before .before .release-slot .ensures)
 
 stays-requires-4 : tie.Need-stays-requires-4
 stays-requires-4 c κs = search needs
