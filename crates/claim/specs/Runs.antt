@@ -12,11 +12,11 @@ use borrow.Fn.Kinds as Kinds'
 use denote.Triple.Clauses
 use Rattle.options.specs.declared.config.DirectionConfig.{DirectionConfig}
 use Rattle.options.specs.declared.outcome.Parsed.{Parsed}
+use Rattle.held.specs.Copies.{copy}
 use Rattle.queue.specs.Tables.{Tables, tables}
 use Rattle.queue.specs.declared.answers.Queued.{Queued}
 use Rattle.queue.specs.declared.answers.ReleaseAnswer.{ReleaseAnswer}
 use Rattle.queue.specs.declared.answers.ReleaseAnswer.the-variants as left
-use Rattle.queue_laws.specs.Held.{copy}
 use Rattle.machine.specs.Calls.{Call, arrive as arriveCall, release as releaseCall, rebind as rebindCall, teardown as teardownCall, report as reportCall, Answer, released, noneDue, refused}
 use Rattle.device.specs.declared.answers.Arrived.{Arrived}
 use Rattle.device.specs.declared.answers.Created.{Created}

@@ -4,7 +4,7 @@ use mathlib.Core.Path.{_≡_}
 use mathlib.Core.Bool.{false, cond}
 use mathlib.Core.List.{List, [], _∷_}
 use lib.Ieee.{Float, le, isNan}
-use Rattle.queue_laws.specs.Held.{Copy, least}
+use Rattle.held.specs.Copies.{Copy, least}
 use Rattle.machine.specs.Machine.{Machine}
 use Rattle.machine.specs.Calls.{released, noneDue}
 use Rattle.machine.specs.Steps.{Step, stepTo, leave}

@@ -11,7 +11,7 @@ use Rattle.options.specs.declared.config.DirectionConfig.{DirectionConfig}
 use Rattle.engine.specs.Engine.{freshOf}
 use Rattle.engine.specs.Refusals.{countersPass}
 use Rattle.engine.specs.declared.engine.ArrivalEngine.{ArrivalEngine}
-use Rattle.queue_laws.specs.Held.{Copy}
+use Rattle.held.specs.Copies.{Copy}
 
 pub record Machine : Type 0 where
   pub engine : ArrivalEngine

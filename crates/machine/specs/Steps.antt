@@ -16,7 +16,7 @@ use Rattle.steps.specs.declared.decision.Decision.the-variants.{DropRandom, Dro
 use Rattle.engine.specs.Changes.{overflowedOf, reboundOf}
 use Rattle.engine.specs.Decide.{decideUncheckedOf}
 use Rattle.engine.specs.declared.engine.ArrivalEngine.{ArrivalEngine}
-use Rattle.queue_laws.specs.Held.{Copy, copy, least, without}
+use Rattle.held.specs.Copies.{Copy, copy, least, without}
 use Rattle.machine.specs.Machine.{Machine, machine, inRange}
 use Rattle.machine.specs.Calls.{Call, arrive, release, rebind, teardown, report, Answer, decided, released, noneDue, rebound, toreDown, reported, refused}
 

@@ -9,32 +9,9 @@ use lib.ListN.{length}
 use Rattle.numbers.specs.Instant.{isInstantOf}
 use Rattle.numbers.specs.Limits.{isCounterOf}
 use Rattle.numbers.specs.Refusals.{refusedInstant, refusedLength, refusedCounter, refusedDue, refusedFull}
-use Rattle.tournament.specs.Order.{beforeOf}
+use Rattle.held.specs.Copies.{Copy, copy, least, without}
 use Rattle.queue.specs.declared.answers.DueAnswer.{DueAnswer}
 use Rattle.queue.specs.declared.answers.DueAnswer.the-variants as due
-
--- "A held copy has due, seq, arrival, route (u64), copy id (u32), length and bytes."
-pub record Copy : Type 0 where
-  pub due : Float
-  pub seq : ℕ
-  pub arrival : Float
-  pub route : ℕ
-  pub copyId : ℕ
-  pub length : ℕ
-  pub bytes : List ℕ
-
-abbrev pub copy : Float → ℕ → Float → ℕ → ℕ → ℕ → List ℕ → Copy
-copy d s a r c n b = record { due = d; seq = s; arrival = a; route = r; copyId = c; length = n; bytes = b }
-
--- the first by (due, seq) of a copy and those of a list
-unfoldable pub least : Copy → List Copy → Copy
-least c [] = c
-least c (x ∷ xs) = least (cond (beforeOf (x .due) (x .seq) (c .due) (c .seq)) x c) xs
-
--- all but the copy with that seq
-unfoldable pub without : ℕ → List Copy → List Copy
-without seq [] = []
-without seq (c ∷ l) = cond (eqb (c .seq) seq) (without seq l) (c ∷ without seq l)
 
 pub record Plain : Type 0 where
   pub cap : ℕ

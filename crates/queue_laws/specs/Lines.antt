@@ -8,8 +8,9 @@ use lib.Ieee.{Float, inf, fin, lt, le, isNan, ofInt}
 use Rattle.numbers.specs.Instant.{isInstantOf}
 use Rattle.numbers.specs.Limits.{isCounterOf}
 use Rattle.numbers.specs.Whole.{whole}
-use Rattle.tournament.specs.Order.{beforeOf}
-use Rattle.queue_laws.specs.Held.{copy, Call, push, release, drain, Reply, entered, released, noneDue, drained, refused, least, without, plain, pushPlainIf, pushPlain, leaveIfDue, releaseLeast, releasePlain, drainPlain, step, run}
+use Rattle.held.specs.Order.{beforeOf}
+use Rattle.held.specs.Copies.{copy, least, without}
+use Rattle.queue_laws.specs.Held.{Call, push, release, drain, Reply, entered, released, noneDue, drained, refused, plain, pushPlainIf, pushPlain, leaveIfDue, releaseLeast, releasePlain, drainPlain, step, run}
 
 -- a copy without bytes, due at that instant, which came at 0
 abbrev at : Float → Call

@@ -7,11 +7,11 @@ use lib.Ieee.{Float, binary64, fits}
 use Rattle.options.specs.Parse.{parseOf}
 use Rattle.options.specs.declared.config.DirectionConfig.{DirectionConfig}
 use Rattle.options.specs.declared.outcome.Parsed.{Parsed}
+use Rattle.held.specs.Copies.{copy}
 use Rattle.queue.specs.Tables.{Tables, After, after}
 use Rattle.queue.specs.Refusals.{slotWidth}
 use Rattle.queue.specs.Calls.{payloadOf}
 use Rattle.queue.specs.declared.answers.ReleaseAnswer.{ReleaseAnswer}
-use Rattle.queue_laws.specs.Held.{copy}
 use Rattle.machine.specs.Calls.{Call, Answer, released}
 use Rattle.device.specs.Creation.{createOf}
 use Rattle.device.specs.Arrive.{arriveOf}

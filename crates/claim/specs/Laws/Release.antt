@@ -15,6 +15,8 @@ use Rattle.accounts.specs.Laws.Calls.{send-done}
 use Rattle.accounts.specs.declared.accountant.SendAccountant.{SendAccountant}
 use Rattle.accounts.specs.declared.accountant.Sent.{Sent}
 use Rattle.accounts.specs.declared.answers.Outcome.the-variants as outcome
+use Rattle.held.specs.Copies.{Copy, least, without}
+use Rattle.held.specs.Laws.Least.{least-mem}
 use Rattle.queue.specs.Calls.{releaseOf as queueReleaseOf}
 use Rattle.queue.specs.Refusals.{slotWidth, memoryOf}
 use Rattle.queue.specs.Tables.{Tables, After, after}
@@ -22,11 +24,10 @@ use Rattle.queue.specs.declared.answers.Queued.{Queued}
 use Rattle.queue.specs.declared.answers.ReleaseAnswer.{ReleaseAnswer}
 use Rattle.queue.specs.declared.answers.ReleaseAnswer.the-variants as answer
 use Rattle.queue.specs.declared.queue.ImpairQueue.{ImpairQueue}
-use Rattle.queue_laws.specs.Held.{Copy, Plain, plain, Step as QueueStep, released as queueReleased, noneDue as queueNoneDue, least, without, releasePlain, releaseLeast as queueReleaseLeast, leaveIfDue as queueLeaveIfDue}
+use Rattle.queue_laws.specs.Held.{Plain, plain, Step as QueueStep, released as queueReleased, noneDue as queueNoneDue, releasePlain, releaseLeast as queueReleaseLeast, leaveIfDue as queueLeaveIfDue}
 use Rattle.queue_laws.specs.Laws.Agree.{Agree, release-agrees}
 use Rattle.queue_laws.specs.Laws.Creation.{long-memory}
 use Rattle.queue_laws.specs.Laws.Keeps.{Keeps}
-use Rattle.queue_laws.specs.Laws.Rows.{least-mem}
 use Rattle.queue_laws.specs.Replies.{copyOf, saidOfRelease as queueSays, saidByRelease}
 use Rattle.engine.specs.Laws.Sound.{SoundEngine}
 use Rattle.machine.specs.Calls.{release, released, noneDue}

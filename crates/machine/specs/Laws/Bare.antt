@@ -8,11 +8,11 @@ use lib.Ieee.{Float, le}
 use lib.ListN.{length}
 use Rattle.numbers.specs.Instant.{isInstantOf}
 use Rattle.numbers.specs.Limits.{isLengthOf}
-use Rattle.tournament.specs.Order.{beforeOf}
 use Rattle.options.specs.declared.config.DirectionConfig.{DirectionConfig}
 use Rattle.steps.specs.declared.decision.Decision.{Decision}
 use Rattle.steps.specs.declared.decision.Decision.the-variants.{DropRandom, DropGe, DropMtu, DropBlackout, DropKillHold, Enqueue, KillRst}
-use Rattle.queue_laws.specs.Held.{Copy, least, without}
+use Rattle.held.specs.Order.{beforeOf}
+use Rattle.held.specs.Copies.{Copy, least, without}
 use Rattle.machine.specs.Machine.{Machine, machine, freshMachine, inRange}
 use Rattle.machine.specs.Calls.{Call, arrive, release, rebind, teardown, report, Answer}
 use Rattle.machine.specs.Steps.{Step, stepTo, unless, Entry, entry, enterCopy, enterCopies, withCopy, entersAs, follow, arriveStep, leaveIfDue, releaseLeast, releaseStep, rebindStep, teardownStep, reportStep, step, answers}

@@ -13,7 +13,7 @@ use Rattle.numbers.specs.Refusals.{refusedInstant, refusedLength, refusedCounte
 use Rattle.accounts.specs.Accountant.{mergedOf}
 use Rattle.engine.specs.Changes.{reboundOf}
 use Rattle.engine.specs.Decide.{decideUncheckedOf}
-use Rattle.queue_laws.specs.Held.{Copy, least}
+use Rattle.held.specs.Copies.{Copy, least}
 use Rattle.machine.specs.Machine.{Machine, inRange}
 use Rattle.machine.specs.Calls.{Call, arrive, release, rebind, teardown, report, Refusal, released, noneDue, rebound, toreDown, reported, refused}
 use Rattle.machine.specs.Steps.{Step, stepTo, unless, withEngine, Entry, entry, enterCopy, enterCopies, tear, follow, arriveStep, leave, leaveIfDue, releaseLeast, releaseStep, rebindStep, teardownStep, reportStep, step}

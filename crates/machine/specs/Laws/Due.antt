@@ -6,9 +6,9 @@ use lib.Ieee.{Float, nan, inf, fin, lt, eq, le, isNan}
 use Rattle.numbers.specs.Laws.Kinds.{number-of}
 use Rattle.numbers.specs.Laws.NotNan.{cond-has}
 use Rattle.numbers.specs.Laws.Order.{lt-is-not-le}
-use Rattle.tournament.specs.Order.{beforeOf}
-use Rattle.queue_laws.specs.Held.{Copy, least}
-use Rattle.queue_laws.specs.Laws.Order.{Num, not-lt-trans, before-asym}
+use Rattle.held.specs.Order.{beforeOf}
+use Rattle.held.specs.Copies.{Copy, least}
+use Rattle.held.specs.Laws.Order.{Num, not-lt-trans, before-asym}
 use Rattle.machine.specs.Machine.{Machine}
 use Rattle.machine.specs.Calls.{released, noneDue}
 use Rattle.machine.specs.Steps.{stepTo, leave, leaveIfDue, releaseLeast}

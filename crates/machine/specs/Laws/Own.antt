@@ -12,8 +12,8 @@ use Rattle.numbers.specs.Laws.NotNan.{cond-has}
 use Rattle.options.specs.declared.config.DirectionConfig.{DirectionConfig}
 use Rattle.steps.specs.declared.decision.Decision.{Decision}
 use Rattle.steps.specs.declared.decision.Decision.the-variants.{DropRandom, DropGe, DropMtu, DropBlackout, DropKillHold, Enqueue, KillRst}
-use Rattle.queue_laws.specs.Held.{Copy, copy, least, without}
-use Rattle.queue_laws.specs.Laws.Rows.{Mem, least-mem}
+use Rattle.held.specs.Copies.{Copy, copy, least, without, Mem}
+use Rattle.held.specs.Laws.Least.{least-mem}
 use Rattle.machine.specs.Machine.{Machine, freshMachine}
 use Rattle.machine.specs.Calls.{Call, arrive, release, rebind, teardown, report, released, refused}
 use Rattle.machine.specs.Steps.{Step, Entry, enterCopy, follow, step, answers}

@@ -15,6 +15,7 @@ use Rattle.numbers.specs.Laws.Limits.{counter-below}
 use Rattle.numbers.specs.Limits.{maxCapacity, isCounterOf}
 use Rattle.numbers.specs.Refusals.{refusedInstant, refusedLength, refusedCounter, refusedDue, refusedFull}
 use Rattle.numbers.specs.Whole.{whole}
+use Rattle.held.specs.Copies.{Copy}
 use Rattle.tournament.specs.Calls.{fitsOf, enterOf, leastOf}
 use Rattle.queue.specs.Tables.{Tables, After, after, treeOf, rowsOf, writtenOf}
 use Rattle.queue.specs.Refusals.{memoryOf, inKeeping, refusalOf, pushRefusal, releaseRefusal, stateRefusal, dueRefusal}
@@ -23,7 +24,7 @@ use Rattle.queue.specs.declared.queue.ImpairQueue.{ImpairQueue}
 use Rattle.queue.specs.declared.answers.Released.{Released}
 use Rattle.queue.specs.declared.answers.DueAnswer.the-variants as due
 use Rattle.queue.specs.declared.answers.ReleaseAnswer.the-variants as release
-use Rattle.queue_laws.specs.Held.{Copy, Plain, Step, stepTo, entered, noneDue, drained, refused, pushPlainIf, pushPlain, pushAgainPlain, releasePlain, releaseLeast, leaveIfDue, drainPlain, leastDue, nextDuePlain}
+use Rattle.queue_laws.specs.Held.{Plain, Step, stepTo, entered, noneDue, drained, refused, pushPlainIf, pushPlain, pushAgainPlain, releasePlain, releaseLeast, leaveIfDue, drainPlain, leastDue, nextDuePlain}
 use Rattle.queue_laws.specs.Replies.{Said, said, saidByPush, saidByRelease, saidByDrain}
 use Rattle.queue_laws.specs.Laws.Rows.{seqLimit}
 use Rattle.queue_laws.specs.Laws.Keeps.{Keeps, rowOf}

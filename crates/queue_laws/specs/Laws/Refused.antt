@@ -13,11 +13,12 @@ use Rattle.numbers.specs.Instant.{isInstantOf}
 use Rattle.numbers.specs.Laws.NotNan.{cond-has, cond-when}
 use Rattle.numbers.specs.Limits.{isCounterOf}
 use Rattle.numbers.specs.Refusals.{refusedInstant, refusedLength, refusedMemory, refusedCounter, refusedKeeping, refusedDue, refusedFull}
+use Rattle.held.specs.Copies.{Copy, least}
 use Rattle.queue.specs.Tables.{Tables}
 use Rattle.queue.specs.Calls.{pushOf, pushAgainOf, nextDueOf}
 use Rattle.queue.specs.declared.queue.ImpairQueue.{ImpairQueue}
 use Rattle.queue.specs.declared.answers.DueAnswer.the-variants as due
-use Rattle.queue_laws.specs.Held.{Copy, Plain, Step, stepTo, Call, push, release, drain, entered, released, noneDue, drained, refused, least, pushPlainIf, pushPlain, pushAgainPlain, releasePlain, releaseLeast, leaveIfDue, drainPlain, leastDue, nextDuePlain, step}
+use Rattle.queue_laws.specs.Held.{Plain, Step, stepTo, Call, push, release, drain, entered, released, noneDue, drained, refused, pushPlainIf, pushPlain, pushAgainPlain, releasePlain, releaseLeast, leaveIfDue, drainPlain, leastDue, nextDuePlain, step}
 use Rattle.queue_laws.specs.Replies.{answerTo, saidByPush}
 use Rattle.queue_laws.specs.Laws.Keeps.{Keeps}
 use Rattle.queue_laws.specs.Laws.Agree.{push-agrees, push-again-agrees, due-agrees}

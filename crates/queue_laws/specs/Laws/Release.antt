@@ -9,7 +9,10 @@ use lib.ListN.{length, getD, set, length-set}
 use lib.Seq.{getD-set-same, getD-set-other}
 use lib.Ieee.{Float}
 use Rattle.numbers.specs.Whole.{whole}
-use Rattle.tournament.specs.Order.{beforeOf}
+use Rattle.held.specs.Order.{beforeOf}
+use Rattle.held.specs.Copies.{Copy, least, without, Mem}
+use Rattle.held.specs.Laws.Order.{before-same}
+use Rattle.held.specs.Laws.Least.{Sized, least-mem, least-le}
 use Rattle.tournament.specs.Nodes.{lessOf}
 use Rattle.tournament.specs.Paths.{carriedOf}
 use Rattle.tournament.specs.Growth.{freeDue, freeSeq, Tree}
@@ -17,11 +20,10 @@ use Rattle.tournament.specs.Calls.{freedOf, leaveOf, leastOf}
 use Rattle.queue.specs.Tables.{Tables, tables, rowsOf, treeOf, joined}
 use Rattle.queue.specs.Calls.{oneLess}
 use Rattle.queue.specs.declared.queue.ImpairQueue.{ImpairQueue}
-use Rattle.queue_laws.specs.Held.{Copy, Plain, plain, least, without}
-use Rattle.queue_laws.specs.Laws.Order.{before-same}
+use Rattle.queue_laws.specs.Held.{Plain, plain}
 use Rattle.queue_laws.specs.Laws.Tree.{eq-cases, lt-cases, due-order, carried-length, root-low, root-min}
 use Rattle.queue_laws.specs.Laws.Calls.{leave-is}
-use Rattle.queue_laws.specs.Laws.Rows.{Perm, perm-sym, perm-length, perm-mem, perm-without, Mem, Sized, least-mem, least-le, seqLimit, view, view-mem, view-place, Place, view-push, view-pop}
+use Rattle.queue_laws.specs.Laws.Rows.{Perm, perm-sym, perm-length, perm-mem, perm-without, seqLimit, view, view-mem, view-place, Place, view-push, view-pop}
 use Rattle.queue_laws.specs.Laws.Keeps.{Keeps, Slot, rowOf, num-inf, nums}
 use Rattle.queue_laws.specs.Laws.Keys.{before-free, clash, due-here, due-there, seq-here, seq-there, set-good}
 
