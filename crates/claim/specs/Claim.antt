@@ -30,7 +30,7 @@ use Rattle.queue_laws.specs.Laws.Keeps.{Long}
 use Rattle.machine.specs.Arrivals.{EachOwn}
 use Rattle.machine.specs.Bare.{bareCalls, bareAnswers}
 use Rattle.machine.specs.Calls.{Call, Answer, refused, Refusal, In}
-use Rattle.machine.specs.Machine.{Machine, freshMachine}
+use Rattle.machine.specs.Machine.{Machine, hostCreation, freshMachine}
 use Rattle.machine.specs.Steps.{answers, afterAll}
 use Rattle.machine.specs.Tally.{total, cameIn, accountedFor, nothing, EachTells}
 use Rattle.machine.specs.Theorems.{count, each-own, alike, each-report, only-three-along}
@@ -56,22 +56,22 @@ pub record Claimed (m : Machine) (cs : List Call) (rs : List Answer) : Type 0 wh
 pub claim-of-settings : {cfg : DirectionConfig} {seed salt cap : ℕ} {t : Tables} {r : Created}
     → Creates cfg seed salt cap t r → r .answer ≡ create.Created
     → (cs : List Call) (rs : List Answer) → Ran (r .device) t cs rs
-    → Claimed (freshMachine cfg seed salt cap) cs rs
+    → Claimed (freshMachine (hostCreation cfg seed salt cap)) cs rs
 claim-of-settings {cfg} {seed} {salt} {cap} {t} {r} c made cs rs ran =
-    subst (λ (l : List Answer). Claimed (freshMachine cfg seed salt cap) cs l) (sym same)
+    subst (λ (l : List Answer). Claimed (freshMachine (hostCreation cfg seed salt cap)) cs l) (sym same)
     (record {
       same = refl;
-      own = each-own cfg seed salt cap cs;
-      alike-answers = λ (ds : List Call) (e : bareCalls cs ≡ bareCalls ds). alike cfg seed salt cap cs ds e;
-      counted = count cfg seed salt cap cs;
-      reports = each-report cfg seed salt cap cs;
-      refusals = only-three-along (freshMachine cfg seed salt cap) cs;
+      own = each-own (hostCreation cfg seed salt cap) cs;
+      alike-answers = λ (ds : List Call) (e : bareCalls cs ≡ bareCalls ds). alike (hostCreation cfg seed salt cap) cs ds e;
+      counted = count (hostCreation cfg seed salt cap) cs;
+      reports = each-report (hostCreation cfg seed salt cap) cs;
+      refusals = only-three-along (freshMachine (hostCreation cfg seed salt cap)) cs;
     })
   where
     is : r ≡ createOf slotWidth cfg seed salt cap t
     is = creates-is c
 
-    same : rs ≡ answers (freshMachine cfg seed salt cap) cs
+    same : rs ≡ answers (freshMachine (hostCreation cfg seed salt cap)) cs
     same =
         ran-is ran
         ∙ ap (λ (x : Created). answersTo (x .device) t cs) is
@@ -88,7 +88,7 @@ settingsOf s2c c = c .s2c
 
 -- the machine of a text's settings and seed, for a direction, a salt and a capacity
 abbrev pub machineOf : List ℕ → Direction → ℕ → ℕ → Machine
-machineOf text d salt cap = freshMachine (settingsOf d (parseOf text .config)) (parseOf text .config .seed) salt cap
+machineOf text d salt cap = freshMachine (hostCreation (settingsOf d (parseOf text .config)) (parseOf text .config .seed) salt cap)
 
 -- of the settings and the seed of an option text, as `parse_config` returned them
 pub claim : {text : List ℕ} {p : Parsed} → Parses text p
@@ -97,7 +97,7 @@ pub claim : {text : List ℕ} {p : Parsed} → Parses text p
     → (cs : List Call) (rs : List Answer) → Ran (r .device) t cs rs
     → Claimed (machineOf text d salt cap) cs rs
 claim parses d {salt} {cap} c made cs rs ran =
-    subst (λ (p : Parsed). Claimed (freshMachine (settingsOf d (p .config)) (p .config .seed) salt cap) cs rs) (parses-is parses) (claim-of-settings c made cs rs ran)
+    subst (λ (p : Parsed). Claimed (freshMachine (hostCreation (settingsOf d (p .config)) (p .config .seed) salt cap)) cs rs) (parses-is parses) (claim-of-settings c made cs rs ran)
 
 -- two runs of one text, direction, salt and capacity, each over its own memory: calls that are alike in kinds, order, times and lengths have answers that are
 -- alike but for the bytes and routes handed out

@@ -21,7 +21,7 @@ use Rattle.queue.specs.declared.queue.ImpairQueue.{ImpairQueue}
 use Rattle.queue_laws.specs.Held.{plain}
 use Rattle.queue_laws.specs.Laws.Creation.{create-keeps, create-made as queue-made}
 use Rattle.queue_laws.specs.Laws.Keeps.{Keeps, Long}
-use Rattle.machine.specs.Machine.{freshMachine}
+use Rattle.machine.specs.Machine.{hostCreation, freshMachine}
 use Rattle.device.specs.Creation.{notCreated, queuedBy, createdBy, createOf}
 use Rattle.device.specs.declared.answers.CreateAnswer.the-variants as answer
 use Rattle.device.specs.declared.answers.Created.{Created}
@@ -30,7 +30,7 @@ use Rattle.claim.specs.Laws.Kept.{Kept}
 module _ (cfg : DirectionConfig) (seed salt cap : ℕ) (t : Tables) where
   -- what a creation that says Created gives
   abbrev Fresh : Created → Type 0
-  Fresh c = c .answer ≡ answer.Created → Kept (c .device) t (freshMachine cfg seed salt cap)
+  Fresh c = c .answer ≡ answer.Created → Kept (c .device) t (freshMachine (hostCreation cfg seed salt cap))
 
   not-created : (k : ℕ) → Fresh (notCreated k)
   unfolding notCreated
@@ -43,7 +43,7 @@ module _ (cfg : DirectionConfig) (seed salt cap : ℕ) (t : Tables) where
   queued settings (made.Refused n) q keeps h = not-created n h
 
   -- a creation that was not refused
-  pub create-kept : createOf slotWidth cfg seed salt cap t .answer ≡ answer.Created → Kept (createOf slotWidth cfg seed salt cap t .device) t (freshMachine cfg seed salt cap)
+  pub create-kept : createOf slotWidth cfg seed salt cap t .answer ≡ answer.Created → Kept (createOf slotWidth cfg seed salt cap t .device) t (freshMachine (hostCreation cfg seed salt cap))
   unfolding createOf createdBy newOf
   create-kept = go (isSettingsOf cfg) refl
     where

@@ -6,7 +6,7 @@ use Rattle.options.specs.declared.config.DirectionConfig.{DirectionConfig}
 use Rattle.queue.specs.Refusals.{slotWidth}
 use Rattle.queue.specs.Tables.{Tables}
 use Rattle.machine.specs.Calls.{Call, arrive, release, rebind, teardown, report, Answer}
-use Rattle.machine.specs.Machine.{Machine, freshMachine}
+use Rattle.machine.specs.Machine.{Machine, hostCreation, freshMachine}
 use Rattle.machine.specs.Steps.{step, answers}
 use Rattle.device.specs.Creation.{createOf}
 use Rattle.device.specs.declared.answers.CreateAnswer.the-variants as create
@@ -37,5 +37,5 @@ calls-agree (c ∷ cs) fit v t m k =
 
 -- from creation on, whatever stood in the lent memory
 pub created-agrees : (cfg : DirectionConfig) (seed salt cap : ℕ) (t : Tables) → createOf slotWidth cfg seed salt cap t .answer ≡ create.Created
-    → (cs : List Call) → Binary64 cs → answersTo (createOf slotWidth cfg seed salt cap t .device) t cs ≡ answers (freshMachine cfg seed salt cap) cs
-created-agrees cfg seed salt cap t made cs fit = calls-agree cs fit (createOf slotWidth cfg seed salt cap t .device) t (freshMachine cfg seed salt cap) (create-kept cfg seed salt cap t made)
+    → (cs : List Call) → Binary64 cs → answersTo (createOf slotWidth cfg seed salt cap t .device) t cs ≡ answers (freshMachine (hostCreation cfg seed salt cap)) cs
+created-agrees cfg seed salt cap t made cs fit = calls-agree cs fit (createOf slotWidth cfg seed salt cap t .device) t (freshMachine (hostCreation cfg seed salt cap)) (create-kept cfg seed salt cap t made)

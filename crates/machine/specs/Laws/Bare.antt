@@ -8,12 +8,11 @@ use lib.Ieee.{Float, le}
 use lib.ListN.{length}
 use Rattle.numbers.specs.Instant.{isInstantOf}
 use Rattle.numbers.specs.Limits.{isLengthOf}
-use Rattle.options.specs.declared.config.DirectionConfig.{DirectionConfig}
 use Rattle.steps.specs.declared.decision.Decision.{Decision}
 use Rattle.steps.specs.declared.decision.Decision.the-variants.{DropRandom, DropGe, DropMtu, DropBlackout, DropKillHold, Enqueue, KillRst}
 use Rattle.held.specs.Order.{beforeOf}
 use Rattle.held.specs.Copies.{Copy, least, without}
-use Rattle.machine.specs.Machine.{Machine, machine, freshMachine, inRange}
+use Rattle.machine.specs.Machine.{Machine, machine, Creation, freshMachine, inRange}
 use Rattle.machine.specs.Calls.{Call, arrive, release, rebind, teardown, report, Answer}
 use Rattle.machine.specs.Steps.{Step, stepTo, unless, Entry, entry, enterCopy, enterCopies, withCopy, entersAs, follow, arriveStep, leaveIfDue, releaseLeast, releaseStep, rebindStep, teardownStep, reportStep, step, answers}
 use Rattle.machine.specs.Bare.{blank, bareCall, bareCopy, bareAnswer, bareCalls, bareAnswers}
@@ -122,6 +121,6 @@ bare-answers m (c ∷ cs) =
     ∙ ap (λ (s : Step). s .answer ∷ answers (s .then) (bareCalls cs)) (bare-step m c)
 
 -- a fresh machine holds no copies
-pub fresh-bare : (cfg : DirectionConfig) (seed salt cap : ℕ) → bareMachine (freshMachine cfg seed salt cap) ≡ freshMachine cfg seed salt cap
+pub fresh-bare : (made : Creation) → bareMachine (freshMachine made) ≡ freshMachine made
 unfolding freshMachine
-fresh-bare cfg seed salt cap = refl
+fresh-bare made = refl

@@ -10,12 +10,11 @@ use lib.Ieee.{Float}
 use lib.ListN.{length}
 use borrow.Author.Tests.{ne-eqb, eqb-true, eqb-false}
 use Rattle.numbers.specs.Laws.NotNan.{cond-has}
-use Rattle.options.specs.declared.config.DirectionConfig.{DirectionConfig}
 use Rattle.steps.specs.declared.decision.Decision.{Decision}
 use Rattle.steps.specs.declared.decision.Decision.the-variants.{DropRandom, DropGe, DropMtu, DropBlackout, DropKillHold, Enqueue, KillRst}
 use Rattle.held.specs.Copies.{Copy, least, without, Mem}
 use Rattle.held.specs.Laws.Least.{least-mem}
-use Rattle.machine.specs.Machine.{Machine, freshMachine}
+use Rattle.machine.specs.Machine.{Machine, Creation, freshMachine}
 use Rattle.machine.specs.Calls.{Call}
 use Rattle.machine.specs.Steps.{Step, Entry, enterCopy, follow, step}
 use Rattle.machine.specs.Laws.Cases.{Does, refuses, decides, releases, finds-none, rebinds, keeps, tears, reports, step-does, enters-have}
@@ -96,10 +95,10 @@ does-order reports h = h
 pub step-order : (m : Machine) (c : Call) → InOrder m → InOrder (step m c .then)
 step-order m c h = does-order (step-does m c) h
 
-pub fresh-order : (cfg : DirectionConfig) (seed salt cap : ℕ) → InOrder (freshMachine cfg seed salt cap)
+pub fresh-order : (made : Creation) → InOrder (freshMachine made)
 unfolding freshMachine
-fresh-order cfg seed salt cap = omega arith
+fresh-order made = omega arith
 
-pub fresh-empty : (cfg : DirectionConfig) (seed salt cap : ℕ) → length (freshMachine cfg seed salt cap .held) ≡ 0
+pub fresh-empty : (made : Creation) → length (freshMachine made .held) ≡ 0
 unfolding freshMachine
-fresh-empty cfg seed salt cap = refl
+fresh-empty made = refl

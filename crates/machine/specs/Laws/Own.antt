@@ -9,12 +9,11 @@ use lib.Dec.{ltb, eqb}
 use lib.Ieee.{Float}
 use lib.ListN.{length, replicate, length-append}
 use Rattle.numbers.specs.Laws.NotNan.{cond-has}
-use Rattle.options.specs.declared.config.DirectionConfig.{DirectionConfig}
 use Rattle.steps.specs.declared.decision.Decision.{Decision}
 use Rattle.steps.specs.declared.decision.Decision.the-variants.{DropRandom, DropGe, DropMtu, DropBlackout, DropKillHold, Enqueue, KillRst}
 use Rattle.held.specs.Copies.{Copy, copy, least, without, Mem}
 use Rattle.held.specs.Laws.Least.{least-mem}
-use Rattle.machine.specs.Machine.{Machine, freshMachine}
+use Rattle.machine.specs.Machine.{Machine, Creation, freshMachine}
 use Rattle.machine.specs.Calls.{Call, arrive, release, rebind, teardown, report, released, refused}
 use Rattle.machine.specs.Steps.{Step, Entry, enterCopy, follow, step, answers}
 use Rattle.machine.specs.Arrivals.{Brought, brought, enteredBy, At, HandsOut, EachOwn}
@@ -151,6 +150,6 @@ all-own came m h (c ∷ cs) =
     let o : Owns came c (step m c) = step-owns came m c h in
     (o .hands, all-own (came ++ enteredBy c (step m c .answer)) (step m c .then) (o .known) cs)
 
-pub fresh-known : (cfg : DirectionConfig) (seed salt cap : ℕ) → KnownTo [] (freshMachine cfg seed salt cap)
+pub fresh-known : (made : Creation) → KnownTo [] (freshMachine made)
 unfolding freshMachine
-fresh-known cfg seed salt cap = record { number = refl; own = λ (c : Copy) (k : Mem c []). absurd k }
+fresh-known made = record { number = refl; own = λ (c : Copy) (k : Mem c []). absurd k }

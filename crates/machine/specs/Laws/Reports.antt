@@ -9,7 +9,6 @@ use lib.ListN.{length}
 use Rattle.numbers.specs.Laws.NotNan.{cond-has}
 use Rattle.accounts.specs.Accountant.{noSends, sentOf, withSends, mergedOf}
 use Rattle.accounts.specs.Stats.{noStats, withLatenciesOf}
-use Rattle.options.specs.declared.config.DirectionConfig.{DirectionConfig}
 use Rattle.steps.specs.declared.decision.Decision.{Decision}
 use Rattle.steps.specs.declared.decision.Decision.the-variants.{DropRandom, DropGe, DropMtu, DropBlackout, DropKillHold, Enqueue, KillRst}
 use Rattle.engine.specs.Changes.{withOthers, overflowedOf, reboundOf}
@@ -17,7 +16,7 @@ use Rattle.engine.specs.Counts.{countsOf}
 use Rattle.engine.specs.Engine.{freshOf}
 use Rattle.engine.specs.Laws.Counts.{CountedAs, decide-counts}
 use Rattle.engine.specs.declared.engine.ArrivalEngine.{ArrivalEngine}
-use Rattle.machine.specs.Machine.{Machine, freshMachine}
+use Rattle.machine.specs.Machine.{Machine, Creation, freshMachine}
 use Rattle.machine.specs.Calls.{Call}
 use Rattle.machine.specs.Steps.{Step, Entry, entry, withEngine, enterCopy, resetOf, follow, step, answers}
 use Rattle.machine.specs.Tally.{Tally, tally, nothing, arrival, tallyOf, plus, cameIn, accountedFor, Told, Tells, EachTells}
@@ -125,6 +124,6 @@ all-tell x m o h b (c ∷ cs) = (
   all-tell (plus x (tallyOf (step m c .answer))) (step m c .then) (step-order m c o) (does-counts x (step-does m c) h) (omega (arith, b, step-balances m c o)) cs,
 )
 
-pub fresh-counted : (cfg : DirectionConfig) (seed salt cap : ℕ) → Counted nothing (freshMachine cfg seed salt cap)
+pub fresh-counted : (made : Creation) → Counted nothing (freshMachine made)
 unfolding freshMachine freshOf noStats noSends
-fresh-counted cfg seed salt cap = omega arith
+fresh-counted made = omega arith
