@@ -1,15 +1,13 @@
--- What holds of every list of calls on a fresh machine, whatever it is made of, and of every refused call, report and release.
+-- What holds of every list of calls on a fresh machine, whatever it is made of, and of every refused call and report.
 use mathlib.Core.Path.{_≡_, sym, ap, _∙_}
 use mathlib.Core.Logic.{_⊎_, ⊎-elim}
 use mathlib.Core.List.{List, [], _∷_}
 use Prim.Native.Nat.{ℕ}
 use native.Mathlib.Omega.{arith}
-use lib.Ieee.{Float}
 use lib.ListN.{length}
 use Rattle.machine.specs.Machine.{Machine, Creation, freshMachine}
 use Rattle.machine.specs.Calls.{Call, report, Refusal, In, refused}
-use Rattle.machine.specs.Steps.{releaseLeast, step, answers, afterAll}
-use Rattle.machine.specs.Due.{dueBy, releaseDue, AllNumbers}
+use Rattle.machine.specs.Steps.{step, answers, afterAll}
 use Rattle.machine.specs.Tally.{nothing, total, cameIn, accountedFor, EachTells}
 use Rattle.machine.specs.Arrivals.{EachOwn}
 use Rattle.machine.specs.Bare.{bareCalls, bareAnswers}
@@ -19,7 +17,6 @@ use Rattle.machine.specs.Laws.Own.{fresh-known, all-own}
 use Rattle.machine.specs.Laws.Bare.{bare-answers, fresh-bare}
 use Rattle.machine.specs.Laws.Refused.{step-refuses, report-changes-nothing}
 use Rattle.machine.specs.Laws.Reports.{fresh-counted, all-tell}
-use Rattle.machine.specs.Laws.Due.{least-of-due}
 
 -- what came in, received and duplicates, is random, GE, MTU, blackout, reset, overflow, released, torn and held
 pub count : (made : Creation) (cs : List Call)
@@ -63,7 +60,3 @@ refused-stays m c k e = step-refuses m c k e .stays
 -- a report "changes nothing"
 pub report-stays : (m : Machine) → step m report .then ≡ m
 report-stays m = report-changes-nothing m
-
--- "the least (due, seq) with due ≤ now leaves": wherever no held due is a NaN, to take the least of all and ask whether it is due is to take the least that is due
-pub least-due : (m : Machine) (now : Float) → AllNumbers (m .held) → releaseLeast m now (m .held) ≡ releaseDue m now (dueBy now (m .held))
-least-due m now h = least-of-due m now (m .held) h

@@ -81,7 +81,7 @@ does-counts : (x : Tally) {m : Machine} {c : Call} {s : Step} → Does m c s →
 unfolding reboundOf withOthers sentOf
 does-counts x (refuses c k r) h = omega arith
 does-counts x {m} (decides now bytes route) h = follow-counts x m _ _ now bytes route h (decide-counts (m .engine) now (length bytes))
-does-counts x (releases now c l e) h = omega arith
+does-counts x (releases now c k) h = omega arith
 does-counts x (finds-none now) h = omega arith
 does-counts x (rebinds now) h = omega arith
 does-counts x (keeps now) h = omega arith
@@ -107,7 +107,7 @@ follow-tells x m KillRst now bytes route = tt
 does-tells : (x : Tally) {m : Machine} {c : Call} {s : Step} → Does m c s → Counted x m → Balanced x m → Tells x (s .answer)
 does-tells x (refuses c k r) h b = tt
 does-tells x (decides now bytes route) h b = follow-tells x _ _ now bytes route
-does-tells x (releases now c l e) h b = tt
+does-tells x (releases now c k) h b = tt
 does-tells x (finds-none now) h b = tt
 does-tells x (rebinds now) h b = tt
 does-tells x (keeps now) h b = tt
