@@ -11,7 +11,8 @@ use Rattle.machine.specs.Steps.{step, answers}
 use Rattle.device.specs.Creation.{createOf}
 use Rattle.device.specs.declared.answers.CreateAnswer.the-variants as create
 use Rattle.device.specs.declared.device.Device.{Device}
-use Rattle.claim.specs.Laws.Answers.{answerTo, answersTo, Binary64Call, Binary64}
+use Rattle.claim.specs.Runs.{Binary64Call, Binary64}
+use Rattle.claim.specs.Laws.Answers.{answerTo, answersTo}
 use Rattle.claim.specs.Laws.Kept.{Kept}
 use Rattle.claim.specs.Laws.Agree.{Agrees}
 use Rattle.claim.specs.Laws.Creation.{create-kept}
