@@ -110,7 +110,7 @@ refused-creation-agrees {r = r} c k says {u} long ran = claim-of-matching refuse
     matching : Matches (r .device) u (freshMachine refusedCreation)
     matching = subst (λ (v : Device). Matches v u (freshMachine refusedCreation)) (sym (refused-device _ r k (creation-ends c) says)) (refused-matches u long)
 
--- "A device takes the settings of one direction, which the host names"
+-- the direction whose settings a device takes, which the host names
 pub data Direction : Type 0 where
   c2s : Direction
   s2c : Direction

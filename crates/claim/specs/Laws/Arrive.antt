@@ -79,7 +79,7 @@ settled m q d f entered overflowed torn n h =
     }
 
 module _ (m : Machine) (q : ImpairQueue) (t : Tables) (keeps : Keeps slotWidth t q (queueOf m)) (sound : SoundEngine (m .engine)) (short : AllShort (m .held)) where
-  -- "Drop: no more."
+  -- a packet that is dropped does nothing more
   dropped : Follows m (after (untouched q) t) 0 0 0 m
   dropped =
       record {
@@ -95,7 +95,7 @@ module _ (m : Machine) (q : ImpairQueue) (t : Tables) (keeps : Keeps slotWidth t
         short = short;
       }
 
-  -- "KillRst: tcp_rst_kills + 1; held copies move to torn."
+  -- a reset is counted, and all held copies go to torn
   reset-by : (a : DrainAnswer) (r : ImpairQueue) → saidOfDrain a ≡ drained (length (m .held)) → Keeps slotWidth t r (plain (m .cap) [] (m .nextSeq))
       → Follows m (after (tornBy a r) t) 0 0 (length (m .held)) (tear (withAccounts m (resetOf (m .accounts))))
   unfolding tornBy
@@ -119,7 +119,7 @@ module _ (m : Machine) (q : ImpairQueue) (t : Tables) (keeps : Keeps slotWidth t
   unfolding tornOf
   reset next = let a = drains-all m q t keeps next in reset-by (drainOf q .answer) (drainOf q .queue) (a .says) (a .keeps)
 
--- "Enqueue: copy id 0, then id 1 if duplicated, same due"
+-- the copies of a packet enter or overflow
 enqueued : (m : Machine) (f : After Admitted) (n : Entry) → Entering m f n → Follows m f (n .entered) (n .overflowed) 0 (n .then)
 enqueued m f n h =
     record {
