@@ -2,7 +2,7 @@
 use mathlib.Core.List.{List, [], _∷_}
 use Prim.Native.Nat.{ℕ}
 use lib.ListN.{length, replicate}
-use Rattle.queue_laws.specs.Held.{Copy, copy}
+use Rattle.held.specs.Copies.{Copy, copy}
 use Rattle.machine.specs.Calls.{Call, arrive, release, rebind, teardown, report, Answer, decided, released, noneDue, rebound, toreDown, reported, refused}
 
 -- of the bytes only the length is left

@@ -8,7 +8,7 @@ use lib.Ieee.{Float}
 use Rattle.numbers.specs.Refusals.{refusedInstant, refusedLength, refusedCounter}
 use Rattle.accounts.specs.declared.stats.DirectionStats.{DirectionStats}
 use Rattle.steps.specs.declared.decision.Decision.{Decision}
-use Rattle.queue_laws.specs.Held.{Copy}
+use Rattle.held.specs.Copies.{Copy}
 
 -- an arrival has an instant, bytes and a route; a release and a rebind have an instant
 pub data Call : Type 0 where

@@ -36,7 +36,7 @@ use Rattle.engine.specs.Counts.{oneIf, countsOf, countedOf}
 use Rattle.engine.specs.Decide.{afterOf, decideUncheckedOf}
 use Rattle.engine.specs.Engine.{nextRebindOf, freshOf, stateOf, gateAtOf}
 use Rattle.engine.specs.Lines.{ArrivalLines, arrival-lines}
-use Rattle.machine.specs.Machine.{Machine, freshMachine, inRange}
+use Rattle.machine.specs.Machine.{Machine, hostCreation, freshMachine, inRange}
 use Rattle.machine.specs.Calls.{Call, arrive, decided}
 use Rattle.machine.specs.Steps.{unless, enterCopy, enterCopies, follow, arriveStep, step, answers, afterAll}
 use Rattle.machine.specs.Tally.{tally, total}
@@ -64,7 +64,7 @@ duplicating =
 
 -- a machine of capacity 1 with these settings, seed 1 and salt 0, and one arrival of three bytes at 0 with the route 7
 abbrev single : Machine
-single = freshMachine duplicating 1 0 1
+single = freshMachine (hostCreation duplicating 1 0 1)
 
 abbrev one : List Call
 one = arrive (whole 0) (1 ∷ 2 ∷ 3 ∷ []) 7 ∷ []

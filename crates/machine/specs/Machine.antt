@@ -11,7 +11,7 @@ use Rattle.options.specs.declared.config.DirectionConfig.{DirectionConfig}
 use Rattle.engine.specs.Engine.{freshOf}
 use Rattle.engine.specs.Refusals.{countersPass}
 use Rattle.engine.specs.declared.engine.ArrivalEngine.{ArrivalEngine}
-use Rattle.queue_laws.specs.Held.{Copy}
+use Rattle.held.specs.Copies.{Copy}
 
 pub record Machine : Type 0 where
   pub engine : ArrivalEngine
@@ -24,9 +24,19 @@ pub record Machine : Type 0 where
 abbrev pub machine : ArrivalEngine → ℕ → List Copy → ℕ → SendAccountant → ℕ → Machine
 machine e c h n a t = record { engine = e; cap = c; held = h; nextSeq = n; accounts = a; torn = t }
 
--- "fresh: the engine as the source starts it from settings and `direction_seed`, all else empty or 0"
-unfoldable pub freshMachine : DirectionConfig → ℕ → ℕ → ℕ → Machine
-freshMachine cfg seed salt cap = machine (freshOf cfg (directionSeedOf seed salt)) cap [] 0 noSends 0
+-- what a machine is made of: the settings of one direction, the seed of its generator, and the capacity
+pub record Creation : Type 0 where
+  pub settings : DirectionConfig
+  pub generatorSeed : ℕ
+  pub capacity : ℕ
+
+-- what a host makes it of: the generator starts from the seed of the text and the salt of the host
+abbrev pub hostCreation : DirectionConfig → ℕ → ℕ → ℕ → Creation
+hostCreation cfg seed salt cap = record { settings = cfg; generatorSeed = directionSeedOf seed salt; capacity = cap }
+
+-- a fresh machine: the engine as the source starts it, and all else empty or 0
+unfoldable pub freshMachine : Creation → Machine
+freshMachine c = machine (freshOf (c .settings) (c .generatorSeed)) (c .capacity) [] 0 noSends 0
 
 -- whether refusal 25 lets a call through: no "counter (torn too) or next seq handed in is 2^60 or more"
 unfoldable pub inRange : ArrivalEngine → SendAccountant → ℕ → ℕ → Bool

@@ -1,16 +1,13 @@
--- What holds of every list of calls on a fresh machine, whatever its settings, seed, salt and capacity, and of every refused call, report and release.
+-- What holds of every list of calls on a fresh machine, whatever it is made of, and of every refused call and report.
 use mathlib.Core.Path.{_≡_, sym, ap, _∙_}
 use mathlib.Core.Logic.{_⊎_, ⊎-elim}
 use mathlib.Core.List.{List, [], _∷_}
 use Prim.Native.Nat.{ℕ}
 use native.Mathlib.Omega.{arith}
-use lib.Ieee.{Float}
 use lib.ListN.{length}
-use Rattle.options.specs.declared.config.DirectionConfig.{DirectionConfig}
-use Rattle.machine.specs.Machine.{Machine, freshMachine}
+use Rattle.machine.specs.Machine.{Machine, Creation, freshMachine}
 use Rattle.machine.specs.Calls.{Call, report, Refusal, In, refused}
-use Rattle.machine.specs.Steps.{releaseLeast, step, answers, afterAll}
-use Rattle.machine.specs.Due.{dueBy, releaseDue, AllNumbers}
+use Rattle.machine.specs.Steps.{step, answers, afterAll}
 use Rattle.machine.specs.Tally.{nothing, total, cameIn, accountedFor, EachTells}
 use Rattle.machine.specs.Arrivals.{EachOwn}
 use Rattle.machine.specs.Bare.{bareCalls, bareAnswers}
@@ -20,32 +17,31 @@ use Rattle.machine.specs.Laws.Own.{fresh-known, all-own}
 use Rattle.machine.specs.Laws.Bare.{bare-answers, fresh-bare}
 use Rattle.machine.specs.Laws.Refused.{step-refuses, report-changes-nothing}
 use Rattle.machine.specs.Laws.Reports.{fresh-counted, all-tell}
-use Rattle.machine.specs.Laws.Due.{least-of-due}
 
 -- what came in, received and duplicates, is random, GE, MTU, blackout, reset, overflow, released, torn and held
-pub count : (cfg : DirectionConfig) (seed salt cap : ℕ) (cs : List Call)
-    → let m = freshMachine cfg seed salt cap in cameIn (total (answers m cs)) ≡ accountedFor (total (answers m cs)) (length (afterAll m cs .held))
-count cfg seed salt cap cs = omega (arith, fresh-empty cfg seed salt cap, all-balance (freshMachine cfg seed salt cap) (fresh-order cfg seed salt cap) cs)
+pub count : (made : Creation) (cs : List Call)
+    → let m = freshMachine made in cameIn (total (answers m cs)) ≡ accountedFor (total (answers m cs)) (length (afterAll m cs .held))
+count made cs = omega (arith, fresh-empty made, all-balance (freshMachine made) (fresh-order made) cs)
 
 -- every released copy has instant, bytes and route of its arrival, the arrive call in which a copy entered with its seq, and the length of those bytes
-pub each-own : (cfg : DirectionConfig) (seed salt cap : ℕ) (cs : List Call) → EachOwn [] cs (answers (freshMachine cfg seed salt cap) cs)
-each-own cfg seed salt cap cs = all-own [] (freshMachine cfg seed salt cap) (fresh-known cfg seed salt cap) cs
+pub each-own : (made : Creation) (cs : List Call) → EachOwn [] cs (answers (freshMachine made) cs)
+each-own made cs = all-own [] (freshMachine made) (fresh-known made) cs
 
 -- "bytes and route lie with the held copy and decide nothing": the calls without them are answered alike, but for the bytes and routes that are handed out
-pub bytes-decide-nothing : (cfg : DirectionConfig) (seed salt cap : ℕ) (cs : List Call)
-    → let m = freshMachine cfg seed salt cap in bareAnswers (answers m cs) ≡ answers m (bareCalls cs)
-bytes-decide-nothing cfg seed salt cap cs = bare-answers (freshMachine cfg seed salt cap) cs ∙ ap (λ (m : Machine). answers m (bareCalls cs)) (fresh-bare cfg seed salt cap)
+pub bytes-decide-nothing : (made : Creation) (cs : List Call)
+    → let m = freshMachine made in bareAnswers (answers m cs) ≡ answers m (bareCalls cs)
+bytes-decide-nothing made cs = bare-answers (freshMachine made) cs ∙ ap (λ (m : Machine). answers m (bareCalls cs)) (fresh-bare made)
 
 -- so two lists of calls that are alike in kinds, order, times and lengths are answered alike
-pub alike : (cfg : DirectionConfig) (seed salt cap : ℕ) (cs ds : List Call)
-    → let m = freshMachine cfg seed salt cap in bareCalls cs ≡ bareCalls ds → bareAnswers (answers m cs) ≡ bareAnswers (answers m ds)
-alike cfg seed salt cap cs ds e =
-    bytes-decide-nothing cfg seed salt cap cs ∙ ap (answers (freshMachine cfg seed salt cap)) e ∙ sym (bytes-decide-nothing cfg seed salt cap ds)
+pub alike : (made : Creation) (cs ds : List Call)
+    → let m = freshMachine made in bareCalls cs ≡ bareCalls ds → bareAnswers (answers m cs) ≡ bareAnswers (answers m ds)
+alike made cs ds e =
+    bytes-decide-nothing made cs ∙ ap (answers (freshMachine made)) e ∙ sym (bytes-decide-nothing made ds)
 
 -- a report says what is counted from the answers before it, and its own numbers come out
-pub each-report : (cfg : DirectionConfig) (seed salt cap : ℕ) (cs : List Call) → EachTells nothing (answers (freshMachine cfg seed salt cap) cs)
-each-report cfg seed salt cap cs =
-    all-tell nothing (freshMachine cfg seed salt cap) (fresh-order cfg seed salt cap) (fresh-counted cfg seed salt cap) (omega (arith, fresh-empty cfg seed salt cap)) cs
+pub each-report : (made : Creation) (cs : List Call) → EachTells nothing (answers (freshMachine made) cs)
+each-report made cs =
+    all-tell nothing (freshMachine made) (fresh-order made) (fresh-counted made) (omega (arith, fresh-empty made)) cs
 
 -- "the machine refuses by 21, 22 and 25 only"
 pub only-three : (m : Machine) (c : Call) (k : ℕ) → step m c .answer ≡ refused k → Refusal k
@@ -64,7 +60,3 @@ refused-stays m c k e = step-refuses m c k e .stays
 -- a report "changes nothing"
 pub report-stays : (m : Machine) → step m report .then ≡ m
 report-stays m = report-changes-nothing m
-
--- "the least (due, seq) with due ≤ now leaves": wherever no held due is a NaN, to take the least of all and ask whether it is due is to take the least that is due
-pub least-due : (m : Machine) (now : Float) → AllNumbers (m .held) → releaseLeast m now (m .held) ≡ releaseDue m now (dueBy now (m .held))
-least-due m now h = least-of-due m now (m .held) h

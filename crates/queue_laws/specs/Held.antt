@@ -4,37 +4,14 @@ use mathlib.Core.Bool.{Bool, cond, not}
 use mathlib.Core.List.{List, [], _∷_, _++_}
 use Prim.Native.Nat.{ℕ, _+_, _^_}
 use lib.Dec.{leb, eqb}
-use lib.Ieee.{Float, le, isNan}
+use lib.Ieee.{Float, isNan}
 use lib.ListN.{length}
 use Rattle.numbers.specs.Instant.{isInstantOf}
 use Rattle.numbers.specs.Limits.{isCounterOf}
 use Rattle.numbers.specs.Refusals.{refusedInstant, refusedLength, refusedCounter, refusedDue, refusedFull}
-use Rattle.tournament.specs.Order.{beforeOf}
+use Rattle.held.specs.Copies.{Copy, copy, least, without, Leaving, noCopy, oneCopy, leaving}
 use Rattle.queue.specs.declared.answers.DueAnswer.{DueAnswer}
 use Rattle.queue.specs.declared.answers.DueAnswer.the-variants as due
-
--- "A held copy has due, seq, arrival, route (u64), copy id (u32), length and bytes."
-pub record Copy : Type 0 where
-  pub due : Float
-  pub seq : ℕ
-  pub arrival : Float
-  pub route : ℕ
-  pub copyId : ℕ
-  pub length : ℕ
-  pub bytes : List ℕ
-
-abbrev pub copy : Float → ℕ → Float → ℕ → ℕ → ℕ → List ℕ → Copy
-copy d s a r c n b = record { due = d; seq = s; arrival = a; route = r; copyId = c; length = n; bytes = b }
-
--- the first by (due, seq) of a copy and those of a list
-unfoldable pub least : Copy → List Copy → Copy
-least c [] = c
-least c (x ∷ xs) = least (cond (beforeOf (x .due) (x .seq) (c .due) (c .seq)) x c) xs
-
--- all but the copy with that seq
-unfoldable pub without : ℕ → List Copy → List Copy
-without seq [] = []
-without seq (c ∷ l) = cond (eqb (c .seq) seq) (without seq l) (c ∷ without seq l)
 
 pub record Plain : Type 0 where
   pub cap : ℕ
@@ -82,22 +59,17 @@ pushPlain width p due arrival route id bytes = pushPlainIf (isCounterOf (p .next
 unfoldable pub pushAgainPlain : ℕ → Plain → Float → Float → ℕ → ℕ → List ℕ → Step
 pushAgainPlain width p due arrival route id bytes = pushPlainIf (leb (p .nextSeq) (2 ^ 60)) width p due arrival route id bytes
 
--- the copy leaves if its due has come
-unfoldable pub leaveIfDue : Plain → Float → Copy → Step
-leaveIfDue p now c =
-    cond (le (c .due) now) (stepTo (released c) (plain (p .cap) (without (c .seq) (p .held)) (p .nextSeq)))
-    (stepTo noneDue p)
+-- the copy that leaves is handed out, and all but it are left
+unfoldable pub handOut : Plain → Leaving → Step
+handOut p noCopy = stepTo noneDue p
+handOut p (oneCopy c) = stepTo (released c) (plain (p .cap) (without (c .seq) (p .held)) (p .nextSeq))
 
-unfoldable pub releaseLeast : Plain → Float → List Copy → Step
-releaseLeast p now [] = stepTo noneDue p
-releaseLeast p now (c ∷ l) = leaveIfDue p now (least c l)
-
--- 21, 25; else "the least (due, seq) with due ≤ now leaves"
+-- 21, 25; else the least copy that is due leaves
 unfoldable pub releasePlain : Plain → Float → Step
 releasePlain p now =
     cond (not (isInstantOf now)) (stepTo (refused refusedInstant) p)
     (cond (not (isCounterOf (p .nextSeq))) (stepTo (refused refusedCounter) p)
-    (releaseLeast p now (p .held)))
+    (handOut p (leaving now (p .held))))
 
 -- 25; else all leave, and their number is told
 unfoldable pub drainPlain : Plain → Step

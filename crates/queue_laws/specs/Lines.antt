@@ -8,8 +8,9 @@ use lib.Ieee.{Float, inf, fin, lt, le, isNan, ofInt}
 use Rattle.numbers.specs.Instant.{isInstantOf}
 use Rattle.numbers.specs.Limits.{isCounterOf}
 use Rattle.numbers.specs.Whole.{whole}
-use Rattle.tournament.specs.Order.{beforeOf}
-use Rattle.queue_laws.specs.Held.{copy, Call, push, release, drain, Reply, entered, released, noneDue, drained, refused, least, without, plain, pushPlainIf, pushPlain, leaveIfDue, releaseLeast, releasePlain, drainPlain, step, run}
+use Rattle.held.specs.Order.{beforeOf}
+use Rattle.held.specs.Copies.{copy, least, without, dueBy, leastIn, leaving}
+use Rattle.queue_laws.specs.Held.{Call, push, release, drain, Reply, entered, released, noneDue, drained, refused, plain, pushPlainIf, pushPlain, handOut, releasePlain, drainPlain, step, run}
 
 -- a copy without bytes, due at that instant, which came at 0
 abbrev at : Float → Call
@@ -32,5 +33,5 @@ pub record QueueLines : Type 0 where
   pub infinite : replies 2 (at (inf false) ∷ at (whole 1) ∷ release (whole 9007199254740992) ∷ release (whole 9007199254740992) ∷ drain ∷ []) ≡ (entered 0 ∷ entered 1 ∷ out (whole 1) 1 ∷ noneDue ∷ drained 1 ∷ [])
 
 pub queue-lines : QueueLines
-unfolding run step pushPlain pushPlainIf releasePlain releaseLeast leaveIfDue drainPlain least without beforeOf isInstantOf isCounterOf lt le isNan ofInt
+unfolding run step pushPlain pushPlainIf releasePlain handOut drainPlain leaving leastIn dueBy least without beforeOf isInstantOf isCounterOf lt le isNan ofInt
 queue-lines = record { full = refl; tie = refl; due = refl; infinite = refl }

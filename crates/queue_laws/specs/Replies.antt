@@ -1,6 +1,7 @@
 -- What the answers of crates/queue say, as replies of the plain queue: the slot is left out, and a released copy has its bytes from the store.
 use mathlib.Core.List.{List, [], _∷_}
 use Prim.Native.Nat.{ℕ}
+use Rattle.held.specs.Copies.{Copy, copy}
 use Rattle.queue.specs.Calls.{payloadOf, pushOf, releaseOf, drainOf}
 use Rattle.queue.specs.Tables.{Tables, After}
 use Rattle.queue.specs.declared.queue.ImpairQueue.{ImpairQueue}
@@ -14,7 +15,7 @@ use Rattle.queue.specs.declared.answers.ReleaseAnswer.the-variants as releaseAn
 use Rattle.queue.specs.declared.answers.Drained.{Drained}
 use Rattle.queue.specs.declared.answers.DrainAnswer.{DrainAnswer}
 use Rattle.queue.specs.declared.answers.DrainAnswer.the-variants as drainAnswer
-use Rattle.queue_laws.specs.Held.{Copy, copy, Call, push, release, drain, Reply, entered, released, noneDue, drained, refused}
+use Rattle.queue_laws.specs.Held.{Call, push, release, drain, Reply, entered, released, noneDue, drained, refused}
 
 abbrev pub saidOfPush : PushAnswer → Reply
 saidOfPush (pushAnswer.Entered slot seq) = entered seq

@@ -10,6 +10,7 @@ use contract.Lifetimes
 use borrow.Fn.World
 use borrow.Fn.Kinds as Kinds'
 use denote.Triple.Clauses
+use Rattle.held.specs.Copies.{copy}
 use Rattle.queue.specs.Tables.{Tables, tables, After, after}
 use Rattle.queue.specs.Refusals.{slotWidth}
 use Rattle.queue.specs.Calls.{createOf, pushOf, releaseOf, drainOf, payloadOf}
@@ -37,7 +38,7 @@ use Rattle.queue.proofs.queue.ImpairQueue.drain.Kinds as drain-kinds
 use Rattle.queue.proofs.payload as payload-fn
 use Rattle.queue.proofs.payload.Reads as payload
 use Rattle.queue.proofs.payload.Kinds as payload-kinds
-use Rattle.queue_laws.specs.Held.{copy, Call, push as pushCall, release as releaseCall, drain as drainCall, Reply, released, noneDue, refused, plain, run}
+use Rattle.queue_laws.specs.Held.{Call, push as pushCall, release as releaseCall, drain as drainCall, Reply, released, noneDue, refused, plain, run}
 use Rattle.queue_laws.specs.Replies.{saidOfPush, saidOfRelease, saidOfDrain, saidByPush, saidByRelease, saidByDrain, answerTo, answersTo}
 use Rattle.queue_laws.specs.Laws.Runs.{created-agrees}
 

@@ -7,7 +7,7 @@ use lib.Ieee.{Float, lt}
 use lib.Dec.{ltb}
 use lib.ListN.{getD}
 use Rattle.numbers.specs.Whole.{whole}
-use Rattle.tournament.specs.Order.{beforeOf}
+use Rattle.held.specs.Order.{beforeOf}
 use Rattle.tournament.specs.Nodes.{slotAtOf, lessOf, winnerOf, sibling}
 
 -- `beforeOf`, by the tests that the code makes

@@ -8,7 +8,7 @@ use lib.Ieee.{Float}
 use lib.ListN.{getD, set, length}
 use borrow.Author.Tests.{lt-ltb, le-ltb}
 use Rattle.numbers.specs.Whole.{whole}
-use Rattle.tournament.specs.Order.{beforeOf}
+use Rattle.held.specs.Order.{beforeOf}
 use Rattle.tournament.specs.Nodes.{slotAtOf, lessOf, sibling}
 use Rattle.tournament.specs.Paths.{betterOf, carriedOf, climbedOf}
 use Rattle.tournament.proofs.KeySteps.{sibling-less}

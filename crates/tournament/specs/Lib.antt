@@ -1,5 +1,4 @@
--- Read Order, Nodes, Paths, Growth, Calls. The laws of these definitions stand with those of the queue, in crates/queue_laws.
-pub mod Order
+-- Read Nodes, Paths, Growth, Calls. The laws of these definitions stand with those of the queue, in crates/queue_laws.
 pub mod Nodes
 pub mod Paths
 pub mod Growth

@@ -6,7 +6,7 @@ use lib.Dec.{ltb}
 use lib.Ieee.{Float}
 use lib.ListN.{getD}
 use Rattle.numbers.specs.Whole.{whole}
-use Rattle.tournament.specs.Order.{beforeOf}
+use Rattle.held.specs.Order.{beforeOf}
 
 -- whether slot a's key is before slot b's
 unfoldable pub lessOf : List Float → List ℕ → ℕ → ℕ → Bool

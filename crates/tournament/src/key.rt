@@ -3,7 +3,7 @@ ghost use mathlib.Core.Path.{_≡_};
 ghost use mathlib.Core.Bool.{cond};
 ghost use lib.Dec.{ltb};
 ghost use lib.ListN.{getD};
-ghost use Rattle.tournament.specs.Order.{beforeOf};
+ghost use Rattle.held.specs.Order.{beforeOf};
 ghost use Rattle.tournament.specs.Nodes.{lessOf};
 
 // Whether slot a's seq is less than slot b's.

@@ -15,6 +15,7 @@ use Rattle.numbers.specs.Limits.{maxLength, isCounterOf}
 use Rattle.numbers.specs.Refusals.{refusedFull}
 use Rattle.engine.specs.Changes.{overflowedOf}
 use Rattle.engine.specs.Laws.Sound.{SoundEngine}
+use Rattle.held.specs.Copies.{copy}
 use Rattle.queue.specs.Calls.{pushOf, pushAgainOf}
 use Rattle.queue.specs.Refusals.{slotWidth}
 use Rattle.queue.specs.Tables.{Tables, After, after}
@@ -22,7 +23,7 @@ use Rattle.queue.specs.declared.answers.PushAnswer.{PushAnswer}
 use Rattle.queue.specs.declared.answers.PushAnswer.the-variants as push
 use Rattle.queue.specs.declared.answers.Pushed.{Pushed}
 use Rattle.queue.specs.declared.queue.ImpairQueue.{ImpairQueue}
-use Rattle.queue_laws.specs.Held.{copy, Plain, plain, Step as QueueStep, stepTo as queueStepTo, entered, refused, pushPlainIf, pushPlain, pushAgainPlain}
+use Rattle.queue_laws.specs.Held.{Plain, plain, Step as QueueStep, stepTo as queueStepTo, entered, refused, pushPlainIf, pushPlain, pushAgainPlain}
 use Rattle.queue_laws.specs.Laws.Agree.{Agree, push-agrees, push-again-agrees, held-within}
 use Rattle.queue_laws.specs.Laws.Keeps.{Keeps}
 use Rattle.queue_laws.specs.Replies.{saidOfPush, saidByPush}

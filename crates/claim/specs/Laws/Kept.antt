@@ -4,9 +4,10 @@ use mathlib.Core.List.{List, [], _∷_}
 use Prim.Native.Nat.{_≤_}
 use Rattle.numbers.specs.Limits.{maxLength}
 use Rattle.engine.specs.Laws.Sound.{SoundEngine}
+use Rattle.held.specs.Copies.{Copy}
 use Rattle.queue.specs.Refusals.{slotWidth}
 use Rattle.queue.specs.Tables.{Tables}
-use Rattle.queue_laws.specs.Held.{Copy, plain}
+use Rattle.queue_laws.specs.Held.{plain}
 use Rattle.queue_laws.specs.Laws.Keeps.{Keeps}
 use Rattle.machine.specs.Machine.{Machine}
 use Rattle.device.specs.declared.device.Device.{Device}

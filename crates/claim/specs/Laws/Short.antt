@@ -6,8 +6,7 @@ use mathlib.Core.List.{List, [], _∷_, _++_}
 use Prim.Native.Nat.{ℕ, _≤_}
 use lib.Dec.{eqb}
 use Rattle.numbers.specs.Limits.{maxLength}
-use Rattle.queue_laws.specs.Held.{Copy, without}
-use Rattle.queue_laws.specs.Laws.Rows.{Mem}
+use Rattle.held.specs.Copies.{Copy, without, Mem}
 use Rattle.claim.specs.Laws.Kept.{AllShort}
 
 pub short-mem : (c : Copy) (l : List Copy) → Mem c l → AllShort l → c .length ≤ maxLength

@@ -44,7 +44,7 @@ refused-number k n e = cc
 does-refuses : {m : Machine} {c : Call} {s : Step} → Does m c s → (k : ℕ) → s .answer ≡ refused k → Refuses m s k
 does-refuses (refuses c n r) k e = record { one-of = subst Refusal (refused-number n k e) r; stays = refl }
 does-refuses (decides now bytes route) k e = absurd (taken-not k (follow-taken _ _ now bytes route) e)
-does-refuses (releases now c l h) k e = absurd (taken-not k tt e)
+does-refuses (releases now c h) k e = absurd (taken-not k tt e)
 does-refuses (finds-none now) k e = absurd (taken-not k tt e)
 does-refuses (rebinds now) k e = absurd (taken-not k tt e)
 does-refuses (keeps now) k e = absurd (taken-not k tt e)

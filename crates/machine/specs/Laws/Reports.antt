@@ -9,7 +9,6 @@ use lib.ListN.{length}
 use Rattle.numbers.specs.Laws.NotNan.{cond-has}
 use Rattle.accounts.specs.Accountant.{noSends, sentOf, withSends, mergedOf}
 use Rattle.accounts.specs.Stats.{noStats, withLatenciesOf}
-use Rattle.options.specs.declared.config.DirectionConfig.{DirectionConfig}
 use Rattle.steps.specs.declared.decision.Decision.{Decision}
 use Rattle.steps.specs.declared.decision.Decision.the-variants.{DropRandom, DropGe, DropMtu, DropBlackout, DropKillHold, Enqueue, KillRst}
 use Rattle.engine.specs.Changes.{withOthers, overflowedOf, reboundOf}
@@ -17,7 +16,7 @@ use Rattle.engine.specs.Counts.{countsOf}
 use Rattle.engine.specs.Engine.{freshOf}
 use Rattle.engine.specs.Laws.Counts.{CountedAs, decide-counts}
 use Rattle.engine.specs.declared.engine.ArrivalEngine.{ArrivalEngine}
-use Rattle.machine.specs.Machine.{Machine, freshMachine}
+use Rattle.machine.specs.Machine.{Machine, Creation, freshMachine}
 use Rattle.machine.specs.Calls.{Call}
 use Rattle.machine.specs.Steps.{Step, Entry, entry, withEngine, enterCopy, resetOf, follow, step, answers}
 use Rattle.machine.specs.Tally.{Tally, tally, nothing, arrival, tallyOf, plus, cameIn, accountedFor, Told, Tells, EachTells}
@@ -82,7 +81,7 @@ does-counts : (x : Tally) {m : Machine} {c : Call} {s : Step} → Does m c s →
 unfolding reboundOf withOthers sentOf
 does-counts x (refuses c k r) h = omega arith
 does-counts x {m} (decides now bytes route) h = follow-counts x m _ _ now bytes route h (decide-counts (m .engine) now (length bytes))
-does-counts x (releases now c l e) h = omega arith
+does-counts x (releases now c k) h = omega arith
 does-counts x (finds-none now) h = omega arith
 does-counts x (rebinds now) h = omega arith
 does-counts x (keeps now) h = omega arith
@@ -108,7 +107,7 @@ follow-tells x m KillRst now bytes route = tt
 does-tells : (x : Tally) {m : Machine} {c : Call} {s : Step} → Does m c s → Counted x m → Balanced x m → Tells x (s .answer)
 does-tells x (refuses c k r) h b = tt
 does-tells x (decides now bytes route) h b = follow-tells x _ _ now bytes route
-does-tells x (releases now c l e) h b = tt
+does-tells x (releases now c k) h b = tt
 does-tells x (finds-none now) h b = tt
 does-tells x (rebinds now) h b = tt
 does-tells x (keeps now) h b = tt
@@ -125,6 +124,6 @@ all-tell x m o h b (c ∷ cs) = (
   all-tell (plus x (tallyOf (step m c .answer))) (step m c .then) (step-order m c o) (does-counts x (step-does m c) h) (omega (arith, b, step-balances m c o)) cs,
 )
 
-pub fresh-counted : (cfg : DirectionConfig) (seed salt cap : ℕ) → Counted nothing (freshMachine cfg seed salt cap)
+pub fresh-counted : (made : Creation) → Counted nothing (freshMachine made)
 unfolding freshMachine freshOf noStats noSends
-fresh-counted cfg seed salt cap = omega arith
+fresh-counted made = omega arith

@@ -11,13 +11,14 @@ use borrow.Author.Tests.{le-leb, lt-leb, leb-true}
 use Rattle.numbers.specs.Laws.Both.{both-true}
 use Rattle.numbers.specs.Limits.{maxCapacity}
 use Rattle.numbers.specs.Refusals.{refusedMemory, refusedCapacity}
+use Rattle.held.specs.Copies.{Copy}
 use Rattle.queue.specs.Tables.{Tables}
 use Rattle.queue.specs.Refusals.{roomOf, memoryOf}
 use Rattle.queue.specs.Calls.{fresh, notCreated, createOf}
 use Rattle.queue.specs.declared.queue.ImpairQueue.{ImpairQueue}
 use Rattle.queue.specs.declared.answers.Created.{Created}
 use Rattle.queue.specs.declared.answers.CreateAnswer.the-variants as create
-use Rattle.queue_laws.specs.Held.{Copy, Plain, plain}
+use Rattle.queue_laws.specs.Held.{Plain, plain}
 use Rattle.queue_laws.specs.Laws.Rows.{none, seqLimit, view, Perm}
 use Rattle.queue_laws.specs.Laws.Keeps.{Keeps, Long, rowOf}
 

@@ -7,13 +7,14 @@ use lib.ListN.{length, getD}
 use lib.Ieee.{inf, isNan}
 use Rattle.numbers.specs.Limits.{maxCapacity}
 use Rattle.numbers.specs.Whole.{whole}
+use Rattle.held.specs.Copies.{Copy, copy}
+use Rattle.held.specs.Laws.Order.{Num}
 use Rattle.tables.specs.Slots.{partOf}
 use Rattle.tournament.specs.Nodes.{lessOf}
 use Rattle.tournament.specs.Growth.{freeDue, freeSeq}
 use Rattle.queue.specs.Tables.{Tables}
 use Rattle.queue.specs.declared.queue.ImpairQueue.{ImpairQueue}
-use Rattle.queue_laws.specs.Held.{Copy, copy, Plain}
-use Rattle.queue_laws.specs.Laws.Order.{Num}
+use Rattle.queue_laws.specs.Held.{Plain}
 use Rattle.queue_laws.specs.Laws.Tree.{Good}
 use Rattle.queue_laws.specs.Laws.Rows.{Perm, seqLimit, view}
 

@@ -9,16 +9,15 @@ use lib.Seq.{getD-set-same, getD-set-other}
 use lib.Ieee.{Float, nan, inf, fin, lt, isNan}
 use borrow.Author.Tests.{lt-ltb}
 use Rattle.numbers.specs.Whole.{whole}
-use Rattle.tournament.specs.Order.{beforeOf}
+use Rattle.held.specs.Order.{beforeOf}
+use Rattle.held.specs.Laws.Order.{Num, before-asym, before-self}
 use Rattle.tournament.specs.Nodes.{lessOf, slotAtOf}
 use Rattle.tournament.specs.Paths.{carriedOf, climbedOf}
 use Rattle.tournament.specs.Growth.{freeDue, freeSeq}
 use Rattle.queue.specs.Tables.{Tables}
 use Rattle.queue.specs.declared.queue.ImpairQueue.{ImpairQueue}
 use Rattle.queue_laws.specs.Held.{Plain}
-use Rattle.queue_laws.specs.Laws.Order.{Num, before-asym}
 use Rattle.queue_laws.specs.Laws.Tree.{eq-cases, Off, Good, due-order, Order, irrefl, val-leaf, carried-good, climbed-good, low-at, key-good}
-use Rattle.queue_laws.specs.Laws.Rows.{before-self}
 use Rattle.queue_laws.specs.Laws.Keeps.{Keeps, nums}
 
 -- a key in use is before that of a free slot

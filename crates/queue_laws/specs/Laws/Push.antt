@@ -10,6 +10,8 @@ use lib.Seq.{getD-set-same, getD-set-other}
 use lib.Ieee.{Float}
 use borrow.Author.Tests.{eq-eqb, ne-eqb}
 use Rattle.numbers.specs.Whole.{whole}
+use Rattle.held.specs.Copies.{Copy, copy}
+use Rattle.held.specs.Laws.Order.{Num}
 use Rattle.tables.specs.Slots.{filledOf}
 use Rattle.tournament.specs.Paths.{climbedOf}
 use Rattle.tournament.specs.Growth.{freeDue, freeSeq, freeDues, freeSeqs, builtOf, Tree, grownOf, leavesFor, widenedOf}
@@ -17,8 +19,7 @@ use Rattle.tournament.specs.Calls.{fitsOf, placedOf, enterOf}
 use Rattle.queue.specs.Tables.{Tables, tables, rowsOf, writtenOf, treeOf, joined}
 use Rattle.queue.specs.Calls.{queue, nextSlot, oneMore}
 use Rattle.queue.specs.declared.queue.ImpairQueue.{ImpairQueue}
-use Rattle.queue_laws.specs.Held.{Copy, copy, Plain, plain}
-use Rattle.queue_laws.specs.Laws.Order.{Num}
+use Rattle.queue_laws.specs.Held.{Plain, plain}
 use Rattle.queue_laws.specs.Laws.Tree.{eq-cases, lt-cases, due-order, climbed-length}
 use Rattle.queue_laws.specs.Laws.Growth.{setAll-length, setAll-below, setAll-at, built-length, built-good, widened-same, widened-more}
 use Rattle.queue_laws.specs.Laws.Calls.{true-fits, enter-is}

@@ -1,4 +1,4 @@
--- Lists of copies up to order, the first of a list, and the rows of the slots in use.
+-- Lists of copies up to order, and the rows of the slots in use.
 use mathlib.Core.Path.{_≡_, refl, sym, ap, _∙_, subst}
 use mathlib.Core.Logic.{_≢_, _⊎_, inl, inr, ⊎-elim}
 use mathlib.Core.List.{List, [], _∷_, _++_}
@@ -7,11 +7,8 @@ use Prim.Native.Nat.{ℕ, zero, suc, _+_, _<_, _≤_}
 use native.Mathlib.Omega.{arith}
 use lib.ListN.{length}
 use lib.Dec.{ltb, eqb}
-use lib.Ieee.{Float}
 use borrow.Author.Tests.{lt-ltb, le-ltb, eq-eqb, ne-eqb, ltb-true}
-use Rattle.tournament.specs.Order.{beforeOf}
-use Rattle.queue_laws.specs.Held.{Copy, least, without}
-use Rattle.queue_laws.specs.Laws.Order.{Num, before-asym, not-before-trans}
+use Rattle.held.specs.Copies.{Copy, without, Mem}
 use Rattle.queue_laws.specs.Laws.Tree.{eq-cases, lt-cases}
 
 -- the same copies, in another order
@@ -36,10 +33,6 @@ perm-length none = refl
 perm-length (skip x p) = ap suc (perm-length p)
 perm-length (swap x y l) = refl
 perm-length (trans p q) = perm-length p ∙ perm-length q
-
-abbrev pub Mem : Copy → List Copy → Type 0
-Mem c [] = ⊥
-Mem c (x ∷ l) = (c ≡ x) ⊎ Mem c l
 
 pub perm-mem : {l r : List Copy} (c : Copy) → Perm l r → Mem c l → Mem c r
 perm-mem c none m = m
@@ -68,81 +61,6 @@ perm-without q (trans p r) = trans (perm-without q p) (perm-without q r)
 pub perm-last : (l : List Copy) (x : Copy) → Perm (l ++ (x ∷ [])) (x ∷ l)
 perm-last [] x = perm-refl (x ∷ [])
 perm-last (y ∷ l) x = trans (skip y (perm-last l x)) (swap y x l)
-
--- ---- the least copy of a list
-
--- no key is before itself
-pub before-self : (d : Float) (n : ℕ) → beforeOf d n d n ≡ false
-before-self d n = go (beforeOf d n d n) refl
-  where
-    go : (b : Bool) → beforeOf d n d n ≡ b → beforeOf d n d n ≡ false
-    go true e = before-asym _ _ _ _ e
-    go false e = e
-
--- x is not before b
-abbrev pub Le : Copy → Copy → Type 0
-Le b x = beforeOf (x .due) (x .seq) (b .due) (b .seq) ≡ false
-
-le-refl : (c : Copy) → Le c c
-le-refl c = before-self (c .due) (c .seq)
-
-better : Copy → Copy → Copy
-better x c = cond (beforeOf (x .due) (x .seq) (c .due) (c .seq)) x c
-
-record Better (x c b : Copy) : Type 0 where
-  one : (b ≡ c) ⊎ (b ≡ x)
-  le-c : Le b c
-  le-x : Le b x
-
-better-is : (x c : Copy) → Better x c (better x c)
-unfolding better
-better-is x c = go (beforeOf (x .due) (x .seq) (c .due) (c .seq)) refl
-  where
-    go : (b : Bool) → beforeOf (x .due) (x .seq) (c .due) (c .seq) ≡ b → Better x c (cond b x c)
-    go true e = record { one = inr refl; le-c = before-asym _ _ _ _ e; le-x = le-refl x }
-    go false e = record { one = inl refl; le-c = le-refl c; le-x = e }
-
--- every copy of the list has a due that is a number
-abbrev pub Sized : List Copy → Type 0
-Sized l = (x : Copy) → Mem x l → Num (x .due)
-
-num-better : (x c : Copy) (l : List Copy) → Sized (c ∷ x ∷ l) → Sized (better x c ∷ l)
-unfolding better
-num-better x c l h y m = go (beforeOf (x .due) (x .seq) (c .due) (c .seq)) m
-  where
-    go : (b : Bool) → (y ≡ cond b x c) ⊎ Mem y l → Num (y .due)
-    go true (inl e) = h y (inr (inl e))
-    go false (inl e) = h y (inl e)
-    go true (inr k) = h y (inr (inr k))
-    go false (inr k) = h y (inr (inr k))
-
-pub least-mem : (c : Copy) (l : List Copy) → Mem (least c l) (c ∷ l)
-unfolding least better
-least-mem c [] = inl refl
-least-mem c (x ∷ l) = ⊎-elim
-    (λ (e : least (better x c) l ≡ better x c). ⊎-elim (λ (q : better x c ≡ c). inl (e ∙ q)) (λ (q : better x c ≡ x). inr (inl (e ∙ q))) (better-is x c .one))
-    (λ (k : Mem (least (better x c) l) l). inr (inr k))
-    (least-mem (better x c) l)
-
-le-trans : (a b c : Copy) → Num (a .due) → Num (b .due) → Num (c .due) → Le a b → Le b c → Le a c
-le-trans a b c na nb nc p q = not-before-trans _ _ _ _ _ _ nc nb na q p
-
-pub least-le : (c : Copy) (l : List Copy) → Sized (c ∷ l) → (x : Copy) → Mem x (c ∷ l) → Le (least c l) x
-unfolding least better
-least-le c [] h x (inl e) = rw e (le-refl c)
-least-le c [] h x (inr m) = absurd m
-least-le c (y ∷ l) h x m = go (least-le (better y c) l (num-better y c l h)) m
-  where
-    nums : Sized (better y c ∷ l)
-    nums = num-better y c l h
-
-    far : (z : Copy) → Num (z .due) → Le (better y c) z → ((x : Copy) → Mem x (better y c ∷ l) → Le (least (better y c) l) x) → Le (least (better y c) l) z
-    far z nz q ih = le-trans (least (better y c) l) (better y c) z (nums _ (least-mem (better y c) l)) (nums _ (inl refl)) nz (ih (better y c) (inl refl)) q
-
-    go : ((x : Copy) → Mem x (better y c ∷ l) → Le (least (better y c) l) x) → Mem x (c ∷ y ∷ l) → Le (least (better y c) l) x
-    go ih (inl e) = rw e (far c (h c (inl refl)) (better-is y c .le-c) ih)
-    go ih (inr (inl e)) = rw e (far y (h y (inr (inl refl))) (better-is y c .le-x) ih)
-    go ih (inr (inr k)) = ih x (inr k)
 
 -- ---- the rows in use
 

@@ -13,9 +13,9 @@ use lib.Dec.{ltb}
 use lib.Ieee.{Float}
 use borrow.Author.Tests.{lt-ltb, le-ltb}
 use Rattle.numbers.specs.Whole.{whole}
+use Rattle.held.specs.Laws.Order.{Num, before-asym, not-before-trans}
 use Rattle.tournament.specs.Nodes.{lessOf, slotAtOf, winnerOf, sibling}
 use Rattle.tournament.specs.Paths.{betterOf, carriedOf, climbedOf}
-use Rattle.queue_laws.specs.Laws.Order.{Num, before-asym, not-before-trans}
 
 -- ---- two cases
 

@@ -10,7 +10,7 @@ use borrow.Author.Tests.{le-ltb, ltb-true, ltb-false, not-false}
 use Rattle.numbers.specs.Laws.Kinds.{Number, number-inf, number-fin, number-of}
 use Rattle.numbers.specs.Laws.Order.{lt-is-not-le}
 use Rattle.numbers.specs.Laws.Transitive.{le-trans}
-use Rattle.tournament.specs.Order.{beforeOf}
+use Rattle.held.specs.Order.{beforeOf}
 
 -- no NaN
 abbrev pub Num : Float → Type 0
@@ -99,6 +99,14 @@ before-asym d s e t h = go (lt d e) (lt e d) refl refl h
     go true b p q k = rw (lt-asym d e p, p)
     go false true p q k = absurd (true≢false (sym k))
     go false false p q k = rw (q, p) (le-ltb t s (omega (arith, ltb-true s t k)))
+
+-- no key is before itself
+pub before-self : (d : Float) (n : ℕ) → beforeOf d n d n ≡ false
+before-self d n = go (beforeOf d n d n) refl
+  where
+    go : (b : Bool) → beforeOf d n d n ≡ b → beforeOf d n d n ≡ false
+    go true e = before-asym _ _ _ _ e
+    go false e = e
 
 -- two keys of which neither is before the other have the same seq
 pub before-same : (d : Float) (s : ℕ) (e : Float) (t : ℕ) → beforeOf d s e t ≡ false → beforeOf e t d s ≡ false → s ≡ t

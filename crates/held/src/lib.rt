@@ -1,0 +1,1 @@
+// The plain list of held copies: see specs/Lib.antt.
