@@ -10,7 +10,7 @@ use Rattle.numbers.specs.Limits.{isLengthOf}
 use Rattle.accounts.specs.declared.accountant.SendAccountant.{SendAccountant}
 use Rattle.steps.specs.declared.decision.Decision.{Decision}
 use Rattle.engine.specs.Changes.{withOthers}
-use Rattle.engine.specs.Decide.{decideUncheckedOf}
+use Rattle.engine.specs.Decide.{decidePassedOf}
 use Rattle.engine.specs.declared.answers.Arrived.{Arrived as Decided}
 use Rattle.engine.specs.declared.engine.ArrivalEngine.{ArrivalEngine}
 use Rattle.queue.specs.Refusals.{memoryOf}
@@ -72,5 +72,5 @@ arriveRefusal width v t now len = callRefusal v (memoryOf width (v .queue .cap) 
 unfoldable pub arriveOf : ℕ → Device → Tables → Float → List ℕ → ℕ → After Arrived
 arriveOf width v t now bytes route =
     cond (eqb (arriveRefusal width v t now (length bytes)) 0)
-    (settledIn v (decideUncheckedOf (v .engine) now (length bytes)) (followOf width (v .queue) t (decideUncheckedOf (v .engine) now (length bytes) .decision) now route bytes))
+    (settledIn v (decidePassedOf (v .engine) now (length bytes)) (followOf width (v .queue) t (decidePassedOf (v .engine) now (length bytes) .decision) now route bytes))
     (after (notArrived v (arriveRefusal width v t now (length bytes))) t)

@@ -14,6 +14,8 @@ use accounts::SendAccountant;
 use admission::Admitted;
 use draws::Rng;
 use engine::ArrivalEngine;
+use engine::DecideAnswer;
+use numbers::REFUSED_KEEPING;
 use steps::Decision;
 
 // An arrival that is refused.
@@ -37,13 +39,11 @@ pub(crate) struct Moving {
 }
 
 // What a decided arrival moved.
-fn moving_of(decided: engine::Arrived) -> Moving
-    ensures { λ r. ⌜ r ≡ movingOf decided ⌝ }
+fn moving_of(engine: ArrivalEngine, decision: Decision) -> Moving
+    ensures { λ r. ⌜ r ≡ movingOf (record { engine = engine; decision = decision }) ⌝ }
 {
-    let engine = decided.engine;
     let rng = engine.rng;
     let stats = engine.stats;
-    let decision = decided.decision;
     Moving {
         rng,
         ge_bad: engine.ge_bad,
@@ -185,8 +185,13 @@ impl Device {
         }
         let engine = self.engine;
         let decided = engine.decide_unchecked(now_ms, bytes.len());
-        let decision = decided.decision;
-        let moving = moving_of(decided);
+        let after = decided.engine;
+        let answer = decided.answer;
+        // What the engine refuses was refused above.
+        let DecideAnswer::Decided(decision) = answer else {
+            return not_arrived(self, REFUSED_KEEPING);
+        };
+        let moving = moving_of(after, decision);
         // The device moves on between the two halves of the way: over the whole way at once the compiler would not see that its lists stay the same.
         let device = self;
         let admitted = admission::follow(

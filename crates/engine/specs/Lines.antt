@@ -26,11 +26,11 @@ use Rattle.steps.specs.Gate.{killGateOf, anyWindowOf, gateOf}
 use Rattle.steps.specs.Mtu.{exceedsOf}
 use Rattle.steps.specs.declared.decision.Decision.the-variants.{DropRandom, DropMtu, Enqueue}
 use Rattle.judgement.specs.Scalars.{scalarsOf}
-use Rattle.engine.specs.Calls.{newOf, decideOf}
+use Rattle.engine.specs.Calls.{newOf, decideGivenOf, decideOf}
 use Rattle.engine.specs.Counts.{oneIf, countsOf, countedOf}
-use Rattle.engine.specs.Decide.{afterOf, decideUncheckedOf}
+use Rattle.engine.specs.Decide.{afterOf, decidePassedOf}
 use Rattle.engine.specs.Engine.{nextRebindOf, freshOf, stateOf, gateAtOf}
-use Rattle.engine.specs.Refusals.{refusalOf, judgedOf}
+use Rattle.engine.specs.Refusals.{refusalOf, judgedGivenOf}
 use Rattle.engine.specs.declared.answers.DecideAnswer.the-variants.{Decided}
 use Rattle.engine.specs.declared.answers.Decided.{Decided as DecidedEngine}
 use Rattle.engine.specs.declared.engine.ArrivalEngine.{ArrivalEngine}
@@ -94,8 +94,8 @@ pub record ArrivalLines : Type 0 where
   pub still-in-debt : third .answer ≡ Decided (Enqueue (whole 500) false)
 
 pub arrival-lines : ArrivalLines
-unfolding newOf freshOf nextRebindOf rngOf noStats isSettingsOf decideOf judgedOf refusalOf isInstantOf isLengthOf isCounterOf statsCounters latenciesOf
-    decideUncheckedOf afterOf countedOf countsOf oneIf scalarsOf stateOf gateAtOf gateOf killGateOf anyWindowOf
+unfolding newOf freshOf nextRebindOf rngOf noStats isSettingsOf decideGivenOf judgedGivenOf refusalOf isInstantOf isLengthOf isCounterOf statsCounters latenciesOf
+    decidePassedOf afterOf countedOf countsOf oneIf scalarsOf stateOf gateAtOf gateOf killGateOf anyWindowOf
     arrivedOf passedOf geOf mtuOf scheduledOf stoppedOf chanceOf burstOf exceedsOf chargedOf refilledOf bucketCapacityOf rateCapacityOf lastRefillOf
     isDeferredOf jitteredOf reorderedOf owedOf waitedOf
     nextF64Of stepOf outputOf fractionOf chosenOf decimalValue add sub mul div neg lt le isNan ofInt

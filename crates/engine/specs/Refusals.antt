@@ -18,13 +18,16 @@ refusalOf settings instant length counters =
 abbrev pub countersPass : ArrivalEngine → Bool
 countersPass e = isCounterOf (e .«rebinds_done») && areCounters (statsCounters (e .stats))
 
--- what meets a call on an engine, whose instant and length pass or not
-unfoldable pub judgedOf : ArrivalEngine → Bool → Bool → ℕ
-judgedOf e instant length = refusalOf (isSettingsOf (e .cfg)) instant length (countersPass e)
+-- what meets a call on an engine, whose settings, instant and length pass or not
+unfoldable pub judgedGivenOf : Bool → ArrivalEngine → Bool → Bool → ℕ
+judgedGivenOf settings e instant length = refusalOf settings instant length (countersPass e)
+
+abbrev pub judgedOf : ArrivalEngine → Bool → Bool → ℕ
+judgedOf e instant length = judgedGivenOf (isSettingsOf (e .cfg)) e instant length
 
 -- a call with an instant and a length, one with an instant, one with neither
-abbrev pub arrivalRefusal : ArrivalEngine → Float → ℕ → ℕ
-arrivalRefusal e now len = judgedOf e (isInstantOf now) (isLengthOf len)
+abbrev pub arrivalRefusal : Bool → ArrivalEngine → Float → ℕ → ℕ
+arrivalRefusal settings e now len = judgedGivenOf settings e (isInstantOf now) (isLengthOf len)
 
 abbrev pub instantRefusal : ArrivalEngine → Float → ℕ
 instantRefusal e now = judgedOf e (isInstantOf now) true

@@ -33,7 +33,7 @@ use Rattle.steps.specs.Mtu.{exceedsOf}
 use Rattle.steps.specs.declared.decision.Decision.the-variants.{Enqueue}
 use Rattle.engine.specs.Changes.{withOthers, overflowedOf}
 use Rattle.engine.specs.Counts.{oneIf, countsOf, countedOf}
-use Rattle.engine.specs.Decide.{afterOf, decideUncheckedOf}
+use Rattle.engine.specs.Decide.{afterOf, decidePassedOf}
 use Rattle.engine.specs.Engine.{nextRebindOf, freshOf, stateOf, gateAtOf}
 use Rattle.engine.specs.Lines.{ArrivalLines, arrival-lines}
 use Rattle.machine.specs.Machine.{Machine, hostCreation, freshMachine, inRange}
@@ -79,7 +79,7 @@ pub record OverflowLines : Type 0 where
 overflow-lines : OverflowLines
 unfolding answers afterAll step arriveStep unless follow enterCopies enterCopy total inRange freshMachine freshOf nextRebindOf rngOf noStats noSends noLatencies
     isInstantOf isLengthOf isCounterOf statsCounters latenciesOf accountantCounters mixOf mix64Of overflowedOf withOthers
-    decideUncheckedOf afterOf countedOf countsOf oneIf scalarsOf stateOf gateAtOf gateOf killGateOf anyWindowOf
+    decidePassedOf afterOf countedOf countsOf oneIf scalarsOf stateOf gateAtOf gateOf killGateOf anyWindowOf
     arrivedOf passedOf geOf mtuOf scheduledOf stoppedOf chanceOf burstOf exceedsOf chargedOf refilledOf bucketCapacityOf rateCapacityOf lastRefillOf
     isDeferredOf jitteredOf reorderedOf owedOf waitedOf
     nextF64Of stepOf outputOf fractionOf chosenOf add sub mul div neg lt le isNan ofInt

@@ -14,7 +14,7 @@ use Rattle.accounts.specs.declared.accountant.SendAccountant.{SendAccountant}
 use Rattle.steps.specs.declared.decision.Decision.{Decision}
 use Rattle.steps.specs.declared.decision.Decision.the-variants.{DropRandom, DropGe, DropMtu, DropBlackout, DropKillHold, Enqueue, KillRst}
 use Rattle.engine.specs.Changes.{overflowedOf, reboundOf}
-use Rattle.engine.specs.Decide.{decideUncheckedOf}
+use Rattle.engine.specs.Decide.{decidePassedOf}
 use Rattle.engine.specs.declared.engine.ArrivalEngine.{ArrivalEngine}
 use Rattle.held.specs.Copies.{Copy, copy, without, Leaving, noCopy, oneCopy, leaving}
 use Rattle.machine.specs.Machine.{Machine, machine, inRange}
@@ -102,7 +102,7 @@ follow m KillRst now bytes route = stepTo (decided KillRst 0 0 (length (m .held)
 
 unfoldable pub arriveStep : Machine → Float → List ℕ → ℕ → Step
 arriveStep m now bytes route =
-    let d = decideUncheckedOf (m .engine) now (length bytes) in
+    let d = decidePassedOf (m .engine) now (length bytes) in
     unless m (isInstantOf now) (isLengthOf (length bytes)) (follow (withEngine m (d .engine)) (d .decision) now bytes route)
 
 -- ---- release(now)

@@ -16,8 +16,8 @@ use Rattle.numbers.specs.Limits.{isLengthOf, isCounterOf}
 use Rattle.steps.specs.Laws.Sound.{DueFrom}
 use Rattle.steps.specs.declared.decision.Decision.{Decision}
 use Rattle.steps.specs.declared.decision.Decision.the-variants.{DropRandom, DropGe, DropMtu, DropBlackout, DropKillHold, Enqueue, KillRst}
-use Rattle.engine.specs.Decide.{decideUncheckedOf}
-use Rattle.engine.specs.Laws.Sound.{SoundEngine, unchecked-sound}
+use Rattle.engine.specs.Decide.{decidePassedOf}
+use Rattle.engine.specs.Laws.Sound.{SoundEngine, passed-sound}
 use Rattle.engine.specs.declared.answers.Arrived.{Arrived as Decided}
 use Rattle.engine.specs.declared.engine.ArrivalEngine.{ArrivalEngine}
 use Rattle.queue.specs.Calls.{drainOf}
@@ -166,12 +166,12 @@ module _ (m : Machine) (q : ImpairQueue) (t : Tables) (keeps : Keeps slotWidth t
 
   module _ (sound : SoundEngine (m .engine)) (fit : T (fits binary64 now)) where
     abbrev decision : Decided
-    decision = decideUncheckedOf (m .engine) now (length bytes)
+    decision = decidePassedOf (m .engine) now (length bytes)
 
     decides : Passed m (isInstantOf now) (isLengthOf (length bytes))
         → ArriveAgrees (settledIn (deviceOf m q) decision (followOf slotWidth q t (decision .decision) now route bytes)) (follow (withEngine m (decision .engine)) (decision .decision) now bytes route)
     decides p =
-        let kept = unchecked-sound (m .engine) now (length bytes) sound (record { fit = fit; bounded = instant-bounded now (p .instant-passes); short = omega (arith, length-within (length bytes) (p .length-passes)) }) in
+        let kept = passed-sound (m .engine) now (length bytes) sound (record { fit = fit; bounded = instant-bounded now (p .instant-passes); short = omega (arith, length-within (length bytes) (p .length-passes)) }) in
         followed p (decision .engine) (kept .0) (decision .decision) (kept .1)
 
     arrive-parts : ArriveAgrees (arriveOf slotWidth (deviceOf m q) t now bytes route) (step m (arrive now bytes route))

@@ -18,7 +18,7 @@ use Rattle.engine.specs.Calls.{shouldRebindNowOf}
 use Rattle.engine.specs.Changes.{reboundOf}
 use Rattle.engine.specs.Engine.{stateOf}
 use Rattle.engine.specs.Laws.Sound.{SoundEngine}
-use Rattle.engine.specs.Refusals.{refusalOf, judgedOf, countersPass}
+use Rattle.engine.specs.Refusals.{refusalOf, judgedGivenOf, judgedOf, countersPass}
 use Rattle.engine.specs.declared.answers.BoolAnswer.the-variants as said
 use Rattle.engine.specs.declared.answers.Rebound.{Rebound as EngineRebound}
 use Rattle.engine.specs.declared.engine.ArrivalEngine.{ArrivalEngine}
@@ -53,7 +53,7 @@ byTime e b = cond b (record { engine = reboundOf e; answer = said.Said true }) (
 
 -- the engine refuses nothing that the device let through
 judges : (e : ArrivalEngine) (instant : Bool) → isSettingsOf (e .cfg) ≡ true → instant ≡ true → countersPass e ≡ true → judgedOf e instant true ≡ 0
-unfolding judgedOf refusalOf
+unfolding judgedGivenOf refusalOf
 judges e instant settings now counters = rw (settings, now, counters)
 
 rebinds : (e : ArrivalEngine) (now : Float) → judgedOf e (isInstantOf now) true ≡ 0 → shouldRebindNowOf e now ≡ byTime e (le (e .«next_rebind_ms») now)

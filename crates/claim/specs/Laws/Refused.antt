@@ -17,7 +17,7 @@ use Rattle.accounts.specs.declared.answers.Outcome.the-variants as outcome
 use Rattle.steps.specs.declared.decision.Decision.{Decision}
 use Rattle.steps.specs.declared.decision.Decision.the-variants.{DropRandom, DropGe, DropMtu, DropBlackout, DropKillHold, Enqueue, KillRst}
 use Rattle.engine.specs.Calls.{shouldRebindNowOf}
-use Rattle.engine.specs.Decide.{decideUncheckedOf}
+use Rattle.engine.specs.Decide.{decidePassedOf}
 use Rattle.engine.specs.declared.answers.BoolAnswer.{BoolAnswer}
 use Rattle.engine.specs.declared.answers.BoolAnswer.the-variants as bool
 use Rattle.queue.specs.Calls.{pushOf, pushAgainOf, drainOf, releaseOf as queueReleaseOf}
@@ -133,7 +133,7 @@ module _ (v : Device) (t : Tables) where
   pub call-stays : (c : Call) → Stays (answerTo v t c)
   unfolding answerTo arriveOf settledOf answerOf releaseOf rebindOf teardownOf
   call-stays (arrive now bytes route) =
-      let d = decideUncheckedOf (v .engine) now (length bytes) in
+      let d = decidePassedOf (v .engine) now (length bytes) in
       let f = followOf slotWidth (v .queue) t (d .decision) now route bytes in
       cond-has (λ (o : After Arrived). Stays (saidByArrive o)) (eqb (arriveRefusal slotWidth v t now (length bytes)) 0)
       (late _ (settled-keeping (d .decision) (f .gives .number) (f .gives .entered) (f .gives .overflowed) (f .gives .torn) (follow-number (v .queue) t (d .decision) now route bytes)))

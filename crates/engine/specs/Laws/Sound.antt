@@ -24,8 +24,8 @@ use Rattle.options.specs.declared.config.DirectionConfig.{DirectionConfig}
 use Rattle.steps.specs.Laws.Credit.{longestPlanned, full-credit}
 use Rattle.steps.specs.Laws.Sound.{SoundScalars, SoundState, DueFrom, arrived-sound}
 use Rattle.judgement.specs.Scalars.{scalarsOf}
-use Rattle.engine.specs.Calls.{newOf, decideOf}
-use Rattle.engine.specs.Decide.{afterOf, decideUncheckedOf}
+use Rattle.engine.specs.Calls.{newOf, decideGivenOf, decideOf}
+use Rattle.engine.specs.Decide.{afterOf, decidePassedOf}
 use Rattle.engine.specs.Engine.{freshOf, stateOf}
 use Rattle.engine.specs.Laws.Refusals.{no-refusal}
 use Rattle.engine.specs.Refusals.{arrivalRefusal}
@@ -81,10 +81,10 @@ pub record Planned (now : Float) (len : ℕ) : Type 0 where
   pub bounded : Bounded now
   pub short : len ≤ longestPlanned
 
-pub unchecked-sound : (e : ArrivalEngine) (now : Float) (len : ℕ) → SoundEngine e → Planned now len
-    → SoundEngine (decideUncheckedOf e now len .engine) × DueFrom now (decideUncheckedOf e now len .decision)
-unfolding decideUncheckedOf afterOf stateOf
-unchecked-sound e now len s a =
+pub passed-sound : (e : ArrivalEngine) (now : Float) (len : ℕ) → SoundEngine e → Planned now len
+    → SoundEngine (decidePassedOf e now len .engine) × DueFrom now (decidePassedOf e now len .decision)
+unfolding decidePassedOf afterOf stateOf
+passed-sound e now len s a =
     let after = arrived-sound _ (scalarsOf (e .cfg)) _ now len (settings-sound (e .cfg) (s .settings)) (s .state) (a .fit) (a .bounded) (a .short) in
     (record { settings = s .settings; state = after .0 }, after .1)
 
@@ -96,12 +96,12 @@ DueAnswered now (Refused k) = Unit {0}
 -- a call of `decide`, refused or not
 pub decide-sound : (e : ArrivalEngine) (now : Float) (len : ℕ) → SoundEngine e → T (fits binary64 now)
     → SoundEngine (decideOf e now len .engine) × DueAnswered now (decideOf e now len .answer)
-unfolding decideOf
+unfolding decideGivenOf
 decide-sound e now len s fit =
-    cond-when (λ (d : DecidedEngine). SoundEngine (d .engine) × DueAnswered now (d .answer)) (eqb (arrivalRefusal e now len) 0)
+    cond-when (λ (d : DecidedEngine). SoundEngine (d .engine) × DueAnswered now (d .answer)) (eqb (arrivalRefusal (isSettingsOf (e .cfg)) e now len) 0)
     (λ t.
-    let ok = no-refusal e (isInstantOf now) (isLengthOf len) (eqb→eq (arrivalRefusal e now len) 0 t) in
-    unchecked-sound e now len s (record { fit = fit; bounded = instant-bounded now (ok .instant-passes); short = omega (arith, length-within len (ok .length-passes)) }))
+    let ok = no-refusal (isSettingsOf (e .cfg)) e (isInstantOf now) (isLengthOf len) (eqb→eq (arrivalRefusal (isSettingsOf (e .cfg)) e now len) 0 t) in
+    passed-sound e now len s (record { fit = fit; bounded = instant-bounded now (ok .instant-passes); short = omega (arith, length-within len (ok .length-passes)) }))
     (s, tt)
 
 -- ---- every sequence of arrivals
@@ -109,7 +109,7 @@ decide-sound e now len s fit =
 -- each due of a sequence of arrivals, one engine handed on from each to the next
 abbrev pub DuesAlong : ArrivalEngine → List (Float × ℕ) → Type 0
 DuesAlong e [] = Unit {0}
-DuesAlong e (a ∷ l) = DueFrom (a .0) (decideUncheckedOf e (a .0) (a .1) .decision) × DuesAlong (decideUncheckedOf e (a .0) (a .1) .engine) l
+DuesAlong e (a ∷ l) = DueFrom (a .0) (decidePassedOf e (a .0) (a .1) .decision) × DuesAlong (decidePassedOf e (a .0) (a .1) .engine) l
 
 abbrev pub AllPlanned : List (Float × ℕ) → Type 0
 AllPlanned [] = Unit {0}
@@ -118,12 +118,12 @@ AllPlanned (a ∷ l) = Planned (a .0) (a .1) × AllPlanned l
 -- the engine after a sequence of arrivals
 abbrev pub afterAll : ArrivalEngine → List (Float × ℕ) → ArrivalEngine
 afterAll e [] = e
-afterAll e (a ∷ l) = afterAll (decideUncheckedOf e (a .0) (a .1) .engine) l
+afterAll e (a ∷ l) = afterAll (decidePassedOf e (a .0) (a .1) .engine) l
 
 pub arrivals-sound : (e : ArrivalEngine) (l : List (Float × ℕ)) → SoundEngine e → AllPlanned l → SoundEngine (afterAll e l)
 arrivals-sound e [] s h = s
-arrivals-sound e (a ∷ l) s h = arrivals-sound _ l (unchecked-sound e (a .0) (a .1) s (h .0) .0) (h .1)
+arrivals-sound e (a ∷ l) s h = arrivals-sound _ l (passed-sound e (a .0) (a .1) s (h .0) .0) (h .1)
 
 pub dues-sound : (e : ArrivalEngine) (l : List (Float × ℕ)) → SoundEngine e → AllPlanned l → DuesAlong e l
 dues-sound e [] s h = tt
-dues-sound e (a ∷ l) s h = let after = unchecked-sound e (a .0) (a .1) s (h .0) in (after .1, dues-sound _ l (after .0) (h .1))
+dues-sound e (a ∷ l) s h = let after = passed-sound e (a .0) (a .1) s (h .0) in (after .1, dues-sound _ l (after .0) (h .1))

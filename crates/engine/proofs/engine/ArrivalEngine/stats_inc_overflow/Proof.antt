@@ -19,7 +19,7 @@ unfolding statsIncOverflowOf
 returns c = rw (← (c .before .judged .ensures), ne-eqb _ _ (c .if1 .taken))
 
 add-stats : tie.Need-add-stats
-add-stats c = omega (arith, small-stats (c .before .before .before .before .args .self .stats) (no-refusal (c .before .before .before .before .args .self) true true (sym (c .before .before .before .judged .ensures) ∙ c .before .before .if1 .left) .stats))
+add-stats c = omega (arith, small-stats (c .before .before .before .before .args .self .stats) (no-refusal _ (c .before .before .before .before .args .self) true true (sym (c .before .before .before .judged .ensures) ∙ c .before .before .if1 .left) .stats))
 
 returns-2 : tie.Need-returns-2
 unfolding statsIncOverflowOf overflowedOf withOthers
