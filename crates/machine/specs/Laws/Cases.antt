@@ -23,13 +23,8 @@ use Rattle.machine.specs.Steps.{Step, stepTo, unless, withEngine, Entry,
 pub data Does (m : Machine) : Call → Step → Type 0 where
   refuses : (c : Call) (k : ℕ) → Refusal k → Does m c (stepTo (refused k) m)
   decides : (now : Float) (bytes : List ℕ) (route : ℕ)
-<<<<<<< HEAD
       → Does m (arrive now bytes route) (follow (withEngine m (decidePassedOf (m .engine) now (length bytes) .engine)) (decidePassedOf (m .engine) now (length bytes) .decision) now bytes route)
   releases : (now : Float) (c : Copy) → Mem c (m .held) → Does m (release now) (stepTo (released c) (leave m now c))
-=======
-      → Does m (arrive now bytes route) (follow (withEngine m (decidePassedOf (m .engine) now (length bytes) .engine)) (decidePassedOf (m .engine) now (length bytes) .decision) now bytes route)
-  releases : (now : Float) (c : Copy) (l : List Copy) → m .held ≡ c ∷ l → Does m (release now) (stepTo (released (least c l)) (leave m now (least c l)))
->>>>>>> a8c9f79 (Engine: decide_unchecked refuses by 21, 22 and 25 and asks nothing of its caller)
   finds-none : (now : Float) → Does m (release now) (stepTo noneDue m)
   rebinds : (now : Float) → Does m (rebind now) (stepTo (rebound true) (withEngine m (reboundOf (m .engine))))
   keeps : (now : Float) → Does m (rebind now) (stepTo (rebound false) m)
