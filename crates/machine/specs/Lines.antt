@@ -10,7 +10,7 @@ use Rattle.numbers.specs.Limits.{isLengthOf, isCounterOf}
 use Rattle.numbers.specs.Whole.{whole}
 use Rattle.draws.specs.Lines.{DrawLines, draw-lines}
 use Rattle.draws.specs.Mix.{mixOf, mix64Of}
-use Rattle.draws.specs.Rng.{newOf as rngOf, stepOf, outputOf, fractionOf, nextF64Of}
+use Rattle.draws.specs.Rng.{newRngOf, stepOf, outputOf, fractionOf, nextF64Of}
 use Rattle.accounts.specs.Accountant.{noSends}
 use Rattle.accounts.specs.Counters.{accountantCounters, statsCounters}
 use Rattle.accounts.specs.Latency.{noLatencies}
@@ -77,7 +77,7 @@ pub record OverflowLines : Type 0 where
   pub held : length (afterAll single one .held) ≡ 1
 
 overflow-lines : OverflowLines
-unfolding answers afterAll step arriveStep unless follow enterCopies enterCopy total inRange freshMachine freshOf nextRebindOf rngOf noStats noSends noLatencies
+unfolding answers afterAll step arriveStep unless follow enterCopies enterCopy total inRange freshMachine freshOf nextRebindOf newRngOf noStats noSends noLatencies
     isInstantOf isLengthOf isCounterOf statsCounters latenciesOf accountantCounters mixOf mix64Of overflowedOf withOthers
     decideUncheckedOf afterOf countedOf countsOf oneIf scalarsOf stateOf gateAtOf gateOf killGateOf anyWindowOf
     arrivedOf passedOf geOf mtuOf scheduledOf stoppedOf chanceOf burstOf exceedsOf chargedOf refilledOf bucketCapacityOf rateCapacityOf lastRefillOf

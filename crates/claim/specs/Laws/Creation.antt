@@ -9,7 +9,7 @@ use Rattle.numbers.specs.Limits.{maxCapacity}
 use Rattle.numbers.specs.Refusals.{refusedSettings}
 use Rattle.options.specs.Judgement.{isSettingsOf}
 use Rattle.options.specs.declared.config.DirectionConfig.{DirectionConfig}
-use Rattle.engine.specs.Calls.{newOf}
+use Rattle.engine.specs.Calls.{newEngineOf}
 use Rattle.engine.specs.Engine.{freshOf}
 use Rattle.engine.specs.Laws.Sound.{fresh-sound}
 use Rattle.queue.specs.Calls.{createOf as queueCreateOf}
@@ -44,7 +44,7 @@ module _ (cfg : DirectionConfig) (seed salt cap : ℕ) (t : Tables) where
 
   -- a creation that was not refused
   pub create-kept : createOf slotWidth cfg seed salt cap t .answer ≡ answer.Created → Kept (createOf slotWidth cfg seed salt cap t .device) t (freshMachine cfg seed salt cap)
-  unfolding createOf createdBy newOf
+  unfolding createOf createdBy newEngineOf
   create-kept = go (isSettingsOf cfg) refl
     where
       go : (b : Bool) → isSettingsOf cfg ≡ b → Fresh (createOf slotWidth cfg seed salt cap t)
@@ -53,5 +53,5 @@ module _ (cfg : DirectionConfig) (seed salt cap : ℕ) (t : Tables) where
 
   -- a creation with settings that 29 lets through, a capacity in range and memory that is long enough is not refused
   pub create-made : isSettingsOf cfg ≡ true → 0 < cap → cap ≤ maxCapacity → Long slotWidth cap t → createOf slotWidth cfg seed salt cap t .answer ≡ answer.Created
-  unfolding createOf createdBy newOf queuedBy
+  unfolding createOf createdBy newEngineOf queuedBy
   create-made settings low high long = rw (settings, queue-made slotWidth cap t low high long)
