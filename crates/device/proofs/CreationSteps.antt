@@ -5,7 +5,7 @@ use Rattle.numbers.specs.Laws.NotNan.{cond-has}
 use Rattle.draws.specs.Mix.{directionSeedOf}
 use Rattle.accounts.specs.declared.answers.Outcome.the-variants as outcome
 use Rattle.options.specs.Config.{defaultDirection}
-use Rattle.options.specs.Judgement.{isSettingsOf}
+use Rattle.judgement.specs.Settings.{isSettingsOf}
 use Rattle.options.specs.declared.config.DirectionConfig.{DirectionConfig}
 use Rattle.engine.specs.Calls.{newEngineOf}
 use Rattle.engine.specs.Engine.{freshOf}

@@ -13,7 +13,7 @@ use Rattle.accounts.specs.Accountant.{mergedOf}
 use Rattle.accounts.specs.Counters.{areCounters, statsCounters}
 use Rattle.accounts.specs.Laws.Calls.{merge-done}
 use Rattle.accounts.specs.declared.answers.Outcome.the-variants as outcome
-use Rattle.options.specs.Judgement.{isSettingsOf}
+use Rattle.judgement.specs.Settings.{isSettingsOf}
 use Rattle.engine.specs.Calls.{shouldRebindNowOf}
 use Rattle.engine.specs.Changes.{reboundOf}
 use Rattle.engine.specs.Engine.{stateOf}
