@@ -32,7 +32,7 @@ use Rattle.steps.specs.Due.{jitteredOf, reorderedOf, waitedOf, owedOf}
 use Rattle.steps.specs.Gate.{killGateOf, anyWindowOf, gateOf}
 use Rattle.steps.specs.Mtu.{exceedsOf}
 use Rattle.steps.specs.declared.decision.Decision.the-variants.{Enqueue}
-use Rattle.engine.specs.Changes.{withOthers, overflowedOf}
+use Rattle.engine.specs.Changes.{withOthers, withOverflow}
 use Rattle.engine.specs.Counts.{oneIf, countsOf, countedOf}
 use Rattle.engine.specs.Decide.{afterOf, decideUncheckedOf}
 use Rattle.engine.specs.Engine.{nextRebindOf, freshOf, stateOf, gateAtOf}
@@ -62,7 +62,7 @@ pub record OverflowLines : Type 0 where
 
 overflow-lines : OverflowLines
 unfolding answers afterAll step arriveStep unless follow enterCopies enterCopy total inRange directionWith freshMachine freshOf nextRebindOf newRngOf noStats noSends noLatencies
-    isInstantOf isLengthOf isCounterOf statsCounters latenciesOf accountantCounters mixOf mix64Of overflowedOf withOthers
+    isInstantOf isLengthOf isCounterOf statsCounters latenciesOf accountantCounters mixOf mix64Of withOverflow withOthers
     decideUncheckedOf afterOf countedOf countsOf oneIf scalarsOf stateOf gateAtOf gateOf killGateOf anyWindowOf
     arrivedOf passedOf fromGe fromMtu scheduledOf stoppedOf chanceOf burstLossOf exceedsOf chargedOf refilledOf bucketCapacityOf rateCapacityOf defaultBurstOf lastRefillOf
     isDeferredOf jitteredOf reorderedOf owedOf waitedOf waitOf

@@ -60,7 +60,7 @@ withCopy m due now route id bytes =
 unfoldable pub enterCopy : Float → Float → ℕ → List ℕ → ℕ → Entry → Entry
 enterCopy due now route bytes id e =
     cond (ltb (length (e .then .held)) (e .then .cap)) (entry (withCopy (e .then) due now route id bytes) (e .entered + 1) (e .overflowed))
-    (entry (withEngine (e .then) (overflowedOf (e .then .engine))) (e .entered) (e .overflowed + 1))
+    (entry (withEngine (e .then) (overflowedOf (e .then .engine) 1)) (e .entered) (e .overflowed + 1))
 
 -- "copy id 0, then id 1 if duplicated, same due"
 unfoldable pub enterCopies : Machine → Float → Bool → Float → List ℕ → ℕ → Entry

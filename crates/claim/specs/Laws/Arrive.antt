@@ -16,6 +16,7 @@ use Rattle.numbers.specs.Limits.{isLengthOf, isCounterOf}
 use Rattle.steps.specs.Laws.Sound.{DueFrom}
 use Rattle.steps.specs.declared.decision.Decision.{Decision}
 use Rattle.steps.specs.declared.decision.Decision.the-variants.{DropRandom, DropGe, DropMtu, DropBlackout, DropKillHold, Enqueue, KillRst}
+use Rattle.engine.specs.Changes.{overflowedOf}
 use Rattle.engine.specs.Decide.{decideUncheckedOf}
 use Rattle.engine.specs.Laws.Sound.{SoundEngine, unchecked-sound}
 use Rattle.engine.specs.declared.answers.Arrived.{Arrived as Decided}
@@ -36,7 +37,7 @@ use Rattle.machine.specs.Steps.{Step, stepTo, Entry, withEngine, enterCopies, r
 use Rattle.admission.specs.Admitted.{untouched, tornBy, tornOf}
 use Rattle.admission.specs.Follow.{followOf}
 use Rattle.admission.specs.declared.admitted.Admitted.{Admitted}
-use Rattle.device.specs.Arrive.{overflowsOf, resetsOf, answerOf, settledOf, notArrived, settledIn, arriveOf}
+use Rattle.device.specs.Arrive.{resetsOf, answerOf, settledOf, notArrived, settledIn, arriveOf}
 use Rattle.device.specs.declared.answers.ArriveAnswer.the-variants as answer
 use Rattle.device.specs.declared.answers.Arrived.{Arrived}
 use Rattle.device.specs.declared.device.Device.{Device}
@@ -58,7 +59,7 @@ record Follows (m : Machine) (f : After Admitted) (entered overflowed torn : ℕ
   enters : f .gives .entered ≡ entered
   overflows : f .gives .overflowed ≡ overflowed
   tears : f .gives .torn ≡ torn
-  engine : overflowsOf (m .engine) (f .gives .overflowed) ≡ n .engine
+  engine : overflowedOf (m .engine) (f .gives .overflowed) ≡ n .engine
   accounts : resetsOf (m .accounts) (f .gives .resets) ≡ n .accounts
   all-torn : m .torn + f .gives .torn ≡ n .torn
   queue : Keeps slotWidth (f .memory) (f .gives .queue) (queueOf n)

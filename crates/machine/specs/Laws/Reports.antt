@@ -12,7 +12,7 @@ use Rattle.accounts.specs.Stats.{noStats, withLatenciesOf}
 use Rattle.options.specs.declared.config.DirectionConfig.{DirectionConfig}
 use Rattle.steps.specs.declared.decision.Decision.{Decision}
 use Rattle.steps.specs.declared.decision.Decision.the-variants.{DropRandom, DropGe, DropMtu, DropBlackout, DropKillHold, Enqueue, KillRst}
-use Rattle.engine.specs.Changes.{withOthers, overflowedOf, reboundOf}
+use Rattle.engine.specs.Changes.{withOthers, withOverflow, reboundOf}
 use Rattle.engine.specs.Counts.{countsOf}
 use Rattle.engine.specs.Engine.{freshOf}
 use Rattle.engine.specs.Laws.Counts.{CountedAs, decide-counts}
@@ -60,7 +60,7 @@ module _ (x : Tally) (due now : Float) (bytes : List ℕ) (route : ℕ) where
   CountedOn e = Counted (plus x (overflows (e .overflowed))) (e .then)
 
   enter-counts : (id : ℕ) (e : Entry) → CountedOn e → CountedOn (enterCopy due now route bytes id e)
-  unfolding enterCopy overflowedOf withOthers
+  unfolding enterCopy withOverflow withOthers
   enter-counts id e h = cond-has CountedOn (ltb (length (e .then .held)) (e .then .cap)) (omega arith) (omega arith)
 
 -- what follows on the decision, with the engine e that has counted it
