@@ -7,7 +7,7 @@ use lib.Ieee.{Float}
 use lib.ListN.{length}
 use Rattle.numbers.specs.Instant.{isInstantOf}
 use Rattle.numbers.specs.Limits.{isLengthOf}
-use Rattle.accounts.specs.declared.accountant.SendAccountant.{SendAccountant}
+use Rattle.accounts.specs.Accountant.{resetsOf}
 use Rattle.steps.specs.declared.decision.Decision.{Decision}
 use Rattle.engine.specs.Changes.{overflowedOf}
 use Rattle.engine.specs.Decide.{decideUncheckedOf}
@@ -21,18 +21,6 @@ use Rattle.device.specs.declared.answers.ArriveAnswer.{ArriveAnswer}
 use Rattle.device.specs.declared.answers.ArriveAnswer.the-variants as answer
 use Rattle.device.specs.declared.answers.Arrived.{Arrived}
 use Rattle.device.specs.declared.device.Device.{Device}
-
--- "tcp_rst_kills + 1", for a reset
-unfoldable pub resetsOf : SendAccountant → ℕ → SendAccountant
-resetsOf a n =
-    record {
-      «sent_pkts» = a .«sent_pkts»;
-      «sent_bytes» = a .«sent_bytes»;
-      «dropped_overflow» = a .«dropped_overflow»;
-      «tcp_rst_kills» = a .«tcp_rst_kills» + n;
-      «nat_rebinds» = a .«nat_rebinds»;
-      latency = a .latency;
-    }
 
 -- "The answer says the decision and the numbers of copies entered, overflowed and torn by this call", or 26
 unfoldable pub answerOf : Decision → Admitted → ArriveAnswer

@@ -1,15 +1,14 @@
 -- What a device counts at once after an arrival, the machine counts one by one.
-use mathlib.Core.Path.{_≡_, refl}
+use mathlib.Core.Path.{_≡_}
 use Prim.Native.Nat.{ℕ, _+_}
 use native.Mathlib.Nat.{add-zero}
 use native.Mathlib.Omega.{arith}
+use Rattle.accounts.specs.Accountant.{resetsOf}
 use Rattle.accounts.specs.declared.accountant.SendAccountant.{SendAccountant}
 use Rattle.engine.specs.Changes.{withOthers, withOverflow, overflowedOf}
 use Rattle.engine.specs.Engine.{stateOf}
 use Rattle.engine.specs.Laws.Sound.{SoundEngine}
 use Rattle.engine.specs.declared.engine.ArrivalEngine.{ArrivalEngine}
-use Rattle.machine.specs.Steps.{resetOf}
-use Rattle.device.specs.Arrive.{resetsOf}
 
 pub overflows-none : (e : ArrivalEngine) → overflowedOf e 0 ≡ e
 unfolding withOverflow withOthers
@@ -37,7 +36,3 @@ resets-none a i =
       «nat_rebinds» = a .«nat_rebinds»;
       latency = a .latency;
     }
-
-pub resets-one : (a : SendAccountant) → resetsOf a 1 ≡ resetOf a
-unfolding resetsOf resetOf
-resets-one a = refl
