@@ -17,6 +17,6 @@ abbrev pub firstAbove : Float → List Float → ℕ
 firstAbove x [] = 0
 firstAbove x (b ∷ bs) = cond (lt x b) 0 (suc (firstAbove x bs))
 
--- "bucket_index gives the first bound above the latency, 11 for NaN or ≥ 5000."
+-- the bucket of a latency (section "Accounts"); a NaN is below no bound
 unfoldable pub bucketIndexOf : Float → ℕ
 bucketIndexOf x = firstAbove x bounds

@@ -4,7 +4,7 @@ use mathlib.Core.List.{List, [], _∷_}
 use Prim.Native.Nat.{ℕ, zero, suc, _+_, _-_}
 use lib.ListN.{length, take, drop}
 use Rattle.numbers.specs.Refusals.{refusedArgument, refusedValueLacking}
-use Rattle.values.specs.Bytes.{bytes, upTo, has, before, same, equals}
+use Rattle.values.specs.Bytes.{bytes, upTo, has, beforeFirst, same, equals}
 use Rattle.args.specs.declared.cursor.Arg.{Arg}
 use Rattle.args.specs.declared.cursor.Arg.the-variants.{End, Refused, Flag, Pair}
 use Rattle.args.specs.declared.cursor.Step.{Step}
@@ -29,7 +29,7 @@ unfoldable pub keyedOf : List ℕ → ℕ → ℕ → Step
 keyedOf s at n =
     let a = take n (drop at s) in
     let q = upTo equals a in
-    let k = at + dashes (before equals a) in
+    let k = at + dashes (beforeFirst equals a) in
     let key = keyOf a in
     let m = at + (n + 1) in
     cond (has equals a) (stepTo m (Pair k (length key) (at + (q + 1)) (n - (q + 1))))

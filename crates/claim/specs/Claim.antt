@@ -24,8 +24,8 @@ use Prim.Native.Nat.{ℕ, _<_, _≤_}
 use lib.ListN.{length}
 use Rattle.numbers.specs.Limits.{maxCapacity}
 use Rattle.numbers.specs.Refusals.{refusedKeeping}
-use Rattle.options.specs.Judgement.{isSettingsOf}
-use Rattle.options.specs.Laws.Judgement.{parse-sound}
+use Rattle.judgement.specs.Settings.{isSettingsOf}
+use Rattle.judgement.specs.Laws.Parsed.{parse-sound}
 use Rattle.options.specs.Parse.{parseOf}
 use Rattle.options.specs.declared.config.Config.{Config}
 use Rattle.options.specs.declared.config.DirectionConfig.{DirectionConfig}

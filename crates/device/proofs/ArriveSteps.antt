@@ -7,6 +7,7 @@ use native.Mathlib.Omega.{arith}
 use lib.Ieee.{Float}
 use lib.ListN.{length}
 use borrow.Author.Tests.{eq-eqb, ne-eqb}
+use Rattle.numbers.specs.Checks.{firstFailing}
 use Rattle.numbers.specs.Instant.{isInstantOf}
 use Rattle.numbers.specs.Laws.Limits.{counter-below}
 use Rattle.numbers.specs.Limits.{isLengthOf}
@@ -14,7 +15,7 @@ use Rattle.accounts.specs.Laws.Small.{small-sends, small-stats}
 use Rattle.engine.specs.Decide.{afterOf, decidePassedOf}
 use Rattle.engine.specs.Laws.Counts.{decide-counts}
 use Rattle.engine.specs.Calls.{decideGivenOf, decideUncheckedOf}
-use Rattle.engine.specs.Refusals.{refusalOf, judgedGivenOf, countersPass}
+use Rattle.engine.specs.Refusals.{judgedGivenOf, countersPass}
 use Rattle.engine.specs.declared.answers.Arrived.{Arrived as Decided}
 use Rattle.engine.specs.declared.answers.DecideAnswer.{DecideAnswer}
 use Rattle.engine.specs.declared.answers.DecideAnswer.the-variants as answer
@@ -55,7 +56,7 @@ decisionIn (answer.Refused k) = DropRandom
 -- an arrival that passes 21, 22 and 25 is decided
 unchecked-passes : (e : ArrivalEngine) (now : Float) (len : ℕ) → isInstantOf now ≡ true → isLengthOf len ≡ true → countersPass e ≡ true
     → decideUncheckedOf e now len ≡ answeredBy (decidePassedOf e now len)
-unfolding decideGivenOf judgedGivenOf refusalOf
+unfolding decideGivenOf judgedGivenOf firstFailing
 unchecked-passes e now len hi hl hc = rw (hi, hl, hc)
 
 apart : {n : Decision} (k : ℕ) → answer.Refused k ≡ answer.Decided n → ⊥

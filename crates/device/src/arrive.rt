@@ -3,8 +3,9 @@ ghost use mathlib.Core.Path.{_≡_};
 ghost use Prim.Native.Nat.{_+_, _<_, _^_};
 ghost use Rattle.queue.specs.Refusals.{slotWidth};
 ghost use Rattle.queue.specs.Tables.{tables, after};
-ghost use Rattle.engine.specs.Changes.{withOthers};
-ghost use Rattle.device.specs.Arrive.{overflowsOf, resetsOf, answerOf, settledOf, notArrived, arriveOf};
+ghost use Rattle.accounts.specs.Accountant.{resetsOf};
+ghost use Rattle.engine.specs.Changes.{withOthers, overflowedOf};
+ghost use Rattle.device.specs.Arrive.{answerOf, settledOf, notArrived, arriveOf};
 ghost use Rattle.device.specs.Parts.{movingOf, movedOf, decidedWith};
 use crate::answers::ArriveAnswer;
 use crate::answers::Arrived;
@@ -87,7 +88,7 @@ fn overflows(s: DirectionStats, copies: u64) -> DirectionStats
 // The engine with what an arrival moved, and so many copies more that overflowed.
 fn moved(mut engine: ArrivalEngine, moving: Moving, overflowed: u64) -> ArrivalEngine
     requires { ⌜ moving .stats .«dropped_overflow» + overflowed < 2 ^ 64 ⌝ }
-    ensures { λ r. ⌜ r ≡ overflowsOf (movedOf engine moving) overflowed ⌝ }
+    ensures { λ r. ⌜ r ≡ overflowedOf (movedOf engine moving) overflowed ⌝ }
 {
     let rng = moving.rng;
     let stats = moving.stats;

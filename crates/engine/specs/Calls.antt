@@ -8,7 +8,7 @@ use lib.ListN.{take}
 use Rattle.numbers.specs.Refusals.{refusedSettings}
 use Rattle.accounts.specs.declared.answers.Outcome.the-variants as outcome
 use Rattle.options.specs.Config.{defaultDirection}
-use Rattle.options.specs.Judgement.{isSettingsOf}
+use Rattle.judgement.specs.Settings.{isSettingsOf}
 use Rattle.options.specs.declared.config.DirectionConfig.{DirectionConfig}
 use Rattle.steps.specs.Gate.{killNowOf, anyWindowOf}
 use Rattle.engine.specs.Changes.{reboundOf, overflowedOf}
@@ -23,8 +23,8 @@ use Rattle.engine.specs.declared.answers.Decided.{Decided}
 use Rattle.engine.specs.declared.answers.Rebound.{Rebound}
 use Rattle.engine.specs.declared.engine.ArrivalEngine.{ArrivalEngine}
 
-unfoldable pub newOf : DirectionConfig → ℕ → Changed
-newOf cfg seed =
+unfoldable pub newEngineOf : DirectionConfig → ℕ → Changed
+newEngineOf cfg seed =
     cond (isSettingsOf cfg) (record { engine = freshOf cfg seed; outcome = outcome.Done })
     (record { engine = freshOf defaultDirection 0; outcome = outcome.Refused refusedSettings })
 
@@ -63,5 +63,5 @@ holdNowOf e now =
 
 unfoldable pub statsIncOverflowOf : ArrivalEngine → Changed
 statsIncOverflowOf e =
-    cond (eqb (plainRefusal e) 0) (record { engine = overflowedOf e; outcome = outcome.Done })
+    cond (eqb (plainRefusal e) 0) (record { engine = overflowedOf e 1; outcome = outcome.Done })
     (record { engine = e; outcome = outcome.Refused (plainRefusal e) })

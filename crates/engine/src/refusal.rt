@@ -1,7 +1,8 @@
 // Which refusal meets a call.
 ghost use mathlib.Core.Path.{_≡_};
-ghost use Rattle.options.specs.Judgement.{isSettingsOf};
-ghost use Rattle.engine.specs.Refusals.{refusalOf, countersPass, judgedGivenOf, judgedOf};
+ghost use Rattle.numbers.specs.Checks.{firstFailing};
+ghost use Rattle.judgement.specs.Settings.{isSettingsOf};
+ghost use Rattle.engine.specs.Refusals.{engineChecks, countersPass, judgedGivenOf, judgedOf};
 use crate::engine::ArrivalEngine;
 use numbers::REFUSED_COUNTER;
 use numbers::REFUSED_INSTANT;
@@ -10,8 +11,8 @@ use numbers::REFUSED_SETTINGS;
 use options::DirectionConfig;
 
 // The number of the first test that fails, in document 01's order, or 0.
-fn refusal(settings: bool, instant: bool, length: bool, counters: bool) -> u32
-    ensures { λ r. ⌜ r ≡ refusalOf settings instant length counters ⌝ }
+fn refusal(settings: bool, instant: bool, short: bool, counters: bool) -> u32
+    ensures { λ r. ⌜ r ≡ firstFailing (engineChecks settings instant short counters) ⌝ }
 {
     if !settings {
         return REFUSED_SETTINGS;
@@ -19,7 +20,7 @@ fn refusal(settings: bool, instant: bool, length: bool, counters: bool) -> u32
     if !instant {
         return REFUSED_INSTANT;
     }
-    if !length {
+    if !short {
         return REFUSED_LENGTH;
     }
     if !counters {
@@ -46,17 +47,17 @@ impl ArrivalEngine {
     }
 
     // The refusal that meets a call whose settings, instant and length pass or not, or 0.
-    pub(crate) fn judged_given(self, settings: bool, instant: bool, length: bool) -> u32
-        ensures { λ r. ⌜ r ≡ judgedGivenOf settings self instant length ⌝ }
+    pub(crate) fn judged_given(self, settings: bool, instant: bool, short: bool) -> u32
+        ensures { λ r. ⌜ r ≡ judgedGivenOf settings self instant short ⌝ }
     {
-        refusal(settings, instant, length, self.in_range())
+        refusal(settings, instant, short, self.in_range())
     }
 
     // The same with the settings judged by 29.
-    pub(crate) fn judged(self, instant: bool, length: bool) -> u32
-        ensures { λ r. ⌜ r ≡ judgedOf self instant length ⌝ }
+    pub(crate) fn judged(self, instant: bool, short: bool) -> u32
+        ensures { λ r. ⌜ r ≡ judgedOf self instant short ⌝ }
     {
         let cfg = self.cfg;
-        self.judged_given(passes(cfg), instant, length)
+        self.judged_given(passes(cfg), instant, short)
     }
 }

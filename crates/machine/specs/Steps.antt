@@ -9,7 +9,7 @@ use lib.ListN.{length}
 use Rattle.numbers.specs.Instant.{isInstantOf}
 use Rattle.numbers.specs.Limits.{isLengthOf}
 use Rattle.numbers.specs.Refusals.{refusedInstant, refusedLength, refusedCounter}
-use Rattle.accounts.specs.Accountant.{sentOf, mergedOf}
+use Rattle.accounts.specs.Accountant.{sentOf, resetsOf, mergedOf}
 use Rattle.accounts.specs.declared.accountant.SendAccountant.{SendAccountant}
 use Rattle.steps.specs.declared.decision.Decision.{Decision}
 use Rattle.steps.specs.declared.decision.Decision.the-variants.{DropRandom, DropGe, DropMtu, DropBlackout, DropKillHold, Enqueue, KillRst}
@@ -60,25 +60,13 @@ withCopy m due now route id bytes =
 unfoldable pub enterCopy : Float → Float → ℕ → List ℕ → ℕ → Entry → Entry
 enterCopy due now route bytes id e =
     cond (ltb (length (e .then .held)) (e .then .cap)) (entry (withCopy (e .then) due now route id bytes) (e .entered + 1) (e .overflowed))
-    (entry (withEngine (e .then) (overflowedOf (e .then .engine))) (e .entered) (e .overflowed + 1))
+    (entry (withEngine (e .then) (overflowedOf (e .then .engine) 1)) (e .entered) (e .overflowed + 1))
 
 -- "copy id 0, then id 1 if duplicated, same due"
 unfoldable pub enterCopies : Machine → Float → Bool → Float → List ℕ → ℕ → Entry
 enterCopies m due duplicated now bytes route =
     let first = enterCopy due now route bytes 0 (entry m 0 0) in
     cond duplicated (enterCopy due now route bytes 1 first) first
-
--- "tcp_rst_kills + 1"
-unfoldable pub resetOf : SendAccountant → SendAccountant
-resetOf a =
-    record {
-      «sent_pkts» = a .«sent_pkts»;
-      «sent_bytes» = a .«sent_bytes»;
-      «dropped_overflow» = a .«dropped_overflow»;
-      «tcp_rst_kills» = a .«tcp_rst_kills» + 1;
-      «nat_rebinds» = a .«nat_rebinds»;
-      latency = a .latency;
-    }
 
 -- "held copies move to torn"
 abbrev pub tear : Machine → Machine
@@ -98,7 +86,7 @@ follow m DropMtu now bytes route = stepTo (decided DropMtu 0 0 0) m
 follow m DropBlackout now bytes route = stepTo (decided DropBlackout 0 0 0) m
 follow m DropKillHold now bytes route = stepTo (decided DropKillHold 0 0 0) m
 follow m (Enqueue due duplicated) now bytes route = entersAs (Enqueue due duplicated) (enterCopies m due duplicated now bytes route)
-follow m KillRst now bytes route = stepTo (decided KillRst 0 0 (length (m .held))) (tear (withAccounts m (resetOf (m .accounts))))
+follow m KillRst now bytes route = stepTo (decided KillRst 0 0 (length (m .held))) (tear (withAccounts m (resetsOf (m .accounts) 1)))
 
 unfoldable pub arriveStep : Machine → Float → List ℕ → ℕ → Step
 arriveStep m now bytes route =

@@ -1,4 +1,4 @@
--- Maximum and minimum "yield the other operand where one is NaN, and of −0 and 0 the first".
+-- Maximum and minimum, with NaN and the two zeros as document 01 has them (section "Arrival engine").
 use mathlib.Core.Bool.{Bool, cond}
 use lib.Ieee.{Float, isNan, lt}
 

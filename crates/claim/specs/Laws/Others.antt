@@ -6,6 +6,7 @@ use Prim.Native.Nat.{ℕ}
 use native.Mathlib.Omega.{arith}
 use lib.Ieee.{Float, le}
 use lib.ListN.{length}
+use Rattle.numbers.specs.Checks.{firstFailing}
 use Rattle.numbers.specs.Instant.{isInstantOf}
 use Rattle.numbers.specs.Laws.Both.{both, both-true}
 use Rattle.numbers.specs.Limits.{isCounterOf}
@@ -13,12 +14,12 @@ use Rattle.accounts.specs.Accountant.{mergedOf}
 use Rattle.accounts.specs.Counters.{areCounters, statsCounters}
 use Rattle.accounts.specs.Laws.Calls.{merge-done}
 use Rattle.accounts.specs.declared.answers.Outcome.the-variants as outcome
-use Rattle.options.specs.Judgement.{isSettingsOf}
+use Rattle.judgement.specs.Settings.{isSettingsOf}
 use Rattle.engine.specs.Calls.{shouldRebindNowOf}
 use Rattle.engine.specs.Changes.{reboundOf}
 use Rattle.engine.specs.Engine.{stateOf}
 use Rattle.engine.specs.Laws.Sound.{SoundEngine}
-use Rattle.engine.specs.Refusals.{refusalOf, judgedGivenOf, judgedOf, countersPass}
+use Rattle.engine.specs.Refusals.{judgedGivenOf, judgedOf, countersPass}
 use Rattle.engine.specs.declared.answers.BoolAnswer.the-variants as said
 use Rattle.engine.specs.declared.answers.Rebound.{Rebound as EngineRebound}
 use Rattle.engine.specs.declared.engine.ArrivalEngine.{ArrivalEngine}
@@ -53,7 +54,7 @@ byTime e b = cond b (record { engine = reboundOf e; answer = said.Said true }) (
 
 -- the engine refuses nothing that the device let through
 judges : (e : ArrivalEngine) (instant : Bool) → isSettingsOf (e .cfg) ≡ true → instant ≡ true → countersPass e ≡ true → judgedOf e instant true ≡ 0
-unfolding judgedGivenOf refusalOf
+unfolding judgedGivenOf firstFailing
 judges e instant settings now counters = rw (settings, now, counters)
 
 rebinds : (e : ArrivalEngine) (now : Float) → judgedOf e (isInstantOf now) true ≡ 0 → shouldRebindNowOf e now ≡ byTime e (le (e .«next_rebind_ms») now)

@@ -8,7 +8,7 @@ use Rattle.numbers.specs.Laws.NotNan.{cond-has}
 use Rattle.steps.specs.Decision.{isDropOf}
 use Rattle.steps.specs.declared.decision.Decision.{Decision}
 use Rattle.steps.specs.declared.decision.Decision.the-variants.{DropRandom, DropGe, DropMtu, DropBlackout, DropKillHold, Enqueue, KillRst}
-use Rattle.options.specs.Judgement.{isSettingsOf}
+use Rattle.judgement.specs.Settings.{isSettingsOf}
 use Rattle.engine.specs.Calls.{decideGivenOf, decideOf}
 use Rattle.engine.specs.Counts.{oneIf, countsOf, countedOf}
 use Rattle.engine.specs.Decide.{afterOf, decidePassedOf}

@@ -18,13 +18,13 @@ use Rattle.numbers.specs.Laws.NotNan.{cond-when}
 use Rattle.options.specs.Config.{defaultDirection}
 use Rattle.values.specs.Whole.{isBounded}
 use Rattle.settings.specs.Judgement.{isProbability, isTime, isGe}
-use Rattle.options.specs.Judgement.{isRate, isSettingsOf}
-use Rattle.options.specs.Laws.Judgement.{default-judged}
+use Rattle.judgement.specs.Settings.{isSettingsOf}
+use Rattle.judgement.specs.Laws.Parsed.{default-judged}
 use Rattle.options.specs.declared.config.DirectionConfig.{DirectionConfig}
 use Rattle.steps.specs.Laws.Credit.{longestPlanned, full-credit}
 use Rattle.steps.specs.Laws.Sound.{SoundScalars, SoundState, DueFrom, arrived-sound}
-use Rattle.judgement.specs.Scalars.{scalarsOf}
-use Rattle.engine.specs.Calls.{newOf, decideGivenOf, decideOf}
+use Rattle.judgement.specs.Scalars.{isRate, scalarsOf, areScalarsOf}
+use Rattle.engine.specs.Calls.{newEngineOf, decideGivenOf, decideOf}
 use Rattle.engine.specs.Decide.{afterOf, decidePassedOf}
 use Rattle.engine.specs.Engine.{freshOf, stateOf}
 use Rattle.engine.specs.Laws.Refusals.{no-refusal}
@@ -40,9 +40,10 @@ pub record SoundEngine (e : ArrivalEngine) : Type 0 where
   pub state : SoundState (stateOf e)
 
 settings-sound : (cfg : DirectionConfig) → isSettingsOf cfg ≡ true → SoundScalars (scalarsOf cfg)
-unfolding isSettingsOf scalarsOf
+unfolding isSettingsOf areScalarsOf scalarsOf
 settings-sound cfg h =
-    let loss = both-true (isProbability (cfg .loss)) _ h in
+    let scalars = both-true (areScalarsOf (scalarsOf cfg)) _ h in
+    let loss = both-true (isProbability (cfg .loss)) _ (scalars .0) in
     let ge = both-true (isGe (cfg .ge)) _ (loss .1) in
     let delay = both-true (isTime (cfg .«delay_ms»)) _ (ge .1) in
     let jitter = both-true (isTime (cfg .«jitter_ms»)) _ (delay .1) in
@@ -67,8 +68,8 @@ fresh-sound cfg seed h =
     }
 
 -- every new engine, that of a refused creation too
-pub new-sound : (cfg : DirectionConfig) (seed : ℕ) → SoundEngine (newOf cfg seed .engine)
-unfolding newOf
+pub new-sound : (cfg : DirectionConfig) (seed : ℕ) → SoundEngine (newEngineOf cfg seed .engine)
+unfolding newEngineOf
 new-sound cfg seed =
     cond-when (λ (c : Changed). SoundEngine (c .engine)) (isSettingsOf cfg) (λ t. fresh-sound cfg seed (is-true (isSettingsOf cfg) t))
     (fresh-sound defaultDirection 0 default-judged)

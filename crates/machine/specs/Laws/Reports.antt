@@ -7,18 +7,18 @@ use lib.Dec.{ltb}
 use lib.Ieee.{Float}
 use lib.ListN.{length}
 use Rattle.numbers.specs.Laws.NotNan.{cond-has}
-use Rattle.accounts.specs.Accountant.{noSends, sentOf, withSends, mergedOf}
+use Rattle.accounts.specs.Accountant.{noSends, sentOf, withSends, mergedOf, resetsOf}
 use Rattle.accounts.specs.Stats.{noStats, withLatenciesOf}
 use Rattle.steps.specs.declared.decision.Decision.{Decision}
 use Rattle.steps.specs.declared.decision.Decision.the-variants.{DropRandom, DropGe, DropMtu, DropBlackout, DropKillHold, Enqueue, KillRst}
-use Rattle.engine.specs.Changes.{withOthers, overflowedOf, reboundOf}
+use Rattle.engine.specs.Changes.{withOthers, withOverflow, reboundOf}
 use Rattle.engine.specs.Counts.{countsOf}
 use Rattle.engine.specs.Engine.{freshOf}
 use Rattle.engine.specs.Laws.Counts.{CountedAs, decide-counts}
 use Rattle.engine.specs.declared.engine.ArrivalEngine.{ArrivalEngine}
 use Rattle.machine.specs.Machine.{Machine, Creation, freshMachine}
 use Rattle.machine.specs.Calls.{Call}
-use Rattle.machine.specs.Steps.{Step, Entry, entry, withEngine, enterCopy, resetOf, follow, step, answers}
+use Rattle.machine.specs.Steps.{Step, Entry, entry, withEngine, enterCopy, follow, step, answers}
 use Rattle.machine.specs.Tally.{Tally, tally, nothing, arrival, tallyOf, plus, cameIn, accountedFor, Told, Tells, EachTells}
 use Rattle.machine.specs.Laws.Cases.{Does, refuses, decides, releases, finds-none, rebinds, keeps, tears, reports, step-does, enters-have}
 use Rattle.machine.specs.Laws.Held.{InOrder, step-order}
@@ -59,13 +59,13 @@ module _ (x : Tally) (due now : Float) (bytes : List ℕ) (route : ℕ) where
   CountedOn e = Counted (plus x (overflows (e .overflowed))) (e .then)
 
   enter-counts : (id : ℕ) (e : Entry) → CountedOn e → CountedOn (enterCopy due now route bytes id e)
-  unfolding enterCopy overflowedOf withOthers
+  unfolding enterCopy withOverflow withOthers
   enter-counts id e h = cond-has CountedOn (ltb (length (e .then .held)) (e .then .cap)) (omega arith) (omega arith)
 
 -- what follows on the decision, with the engine e that has counted it
 follow-counts : (x : Tally) (m : Machine) (e : ArrivalEngine) (d : Decision) (now : Float) (bytes : List ℕ) (route : ℕ)
     → Counted x m → CountedAs (m .engine) e (length bytes) d → Counts x (follow (withEngine m e) d now bytes route)
-unfolding follow countsOf resetOf
+unfolding follow countsOf resetsOf
 follow-counts x m e DropRandom now bytes route h k = omega arith
 follow-counts x m e DropGe now bytes route h k = omega arith
 follow-counts x m e DropMtu now bytes route h k = omega arith

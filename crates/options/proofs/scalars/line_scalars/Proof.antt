@@ -1,9 +1,9 @@
 -- Each setting is its definition, and the refusals are joined in the source's order.
 use Rattle.options.specs.Config.{defaultConfig}
-use Rattle.options.specs.Scalars.{scalarsOf}
+use Rattle.options.specs.Scalars.{lineScalarsOf}
 use borrow.Author.Needs.{needs}
-use Rattle.options.proofs.scalars.scalars_of.Statement.{statement}
-use Rattle.options.proofs.scalars.scalars_of.Tie as tie
+use Rattle.options.proofs.scalars.line_scalars.Statement.{statement}
+use Rattle.options.proofs.scalars.line_scalars.Tie as tie
 
 mode-at-requires : tie.Need-mode-at-requires
 mode-at-requires c κs = search needs
@@ -69,11 +69,11 @@ earlier-of-requires-3 : tie.Need-earlier-of-requires-3
 earlier-of-requires-3 c κs = search needs
 
 returns : tie.Need-returns
-unfolding scalarsOf defaultConfig
+unfolding lineScalarsOf defaultConfig
 returns c = rw (c .earlier-of3 .ensures, c .before .earlier-of2 .ensures, c .before .before .refusal3 .ensures, c .before .before .before .size .ensures, c .before .before .before .before .whole3 .ensures, c .before .before .before .before .before .whole2 .ensures, c .before .before .before .before .before .before .whole .ensures, c .before .before .before .before .before .before .before .earlier-of .ensures, c .before .before .before .before .before .before .before .before .refusal2 .ensures, c .before .before .before .before .before .before .before .before .before .refusal .ensures, c .before .before .before .before .before .before .before .before .before .before .verbose-at .ensures, c .before .before .before .before .before .before .before .before .before .before .before .setting-at3 .ensures, c .before .before .before .before .before .before .before .before .before .before .before .before .before .before .setting-at2 .ensures, c .before .before .before .before .before .before .before .before .before .before .before .before .before .before .before .before .before .setting-at .ensures, c .before .before .before .before .before .before .before .before .before .before .before .before .before .before .before .before .before .before .before .before .mode-at .ensures)
 
-pub scalars-of-spec : {M : Type 1} → statement M
-scalars-of-spec =
+pub line-scalars-spec : {M : Type 1} → statement M
+line-scalars-spec =
     tie.close
     (tie.spec
     mode-at-requires

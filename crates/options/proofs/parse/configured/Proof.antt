@@ -3,16 +3,16 @@ use borrow.Author.Tests.{eq-eqb, ne-eqb}
 use mathlib.Core.Path.{_≡_}
 use Prim.Native.Nat.{ℕ}
 use Rattle.options.specs.declared.direction.Directed.{Directed}
-use Rattle.options.specs.declared.scalars.Scalars.{Scalars}
+use Rattle.options.specs.declared.scalars.LineScalars.{LineScalars}
 use Rattle.options.specs.Modes.{otherModeOf}
-use Rattle.options.specs.Parse.{settledOf, firstRefusal}
+use Rattle.options.specs.Parse.{configuredOf, firstRefusal}
 use Rattle.settings.specs.Settings.{earlier}
 use borrow.Author.Needs.{needs}
-use Rattle.options.proofs.parse.settled.Statement.{statement}
-use Rattle.options.proofs.parse.settled.Tie as tie
+use Rattle.options.proofs.parse.configured.Statement.{statement}
+use Rattle.options.proofs.parse.configured.Tie as tie
 
 -- the first refusal, piece by piece
-first-is : (s : Scalars) (a b : Directed) {m n o p q r : ℕ} → m ≡ otherModeOf (s .mode) (a .config) → n ≡ otherModeOf (s .mode) (b .config) → o ≡ earlier m n
+first-is : (s : LineScalars) (a b : Directed) {m n o p q r : ℕ} → m ≡ otherModeOf (s .mode) (a .config) → n ≡ otherModeOf (s .mode) (b .config) → o ≡ earlier m n
     → p ≡ earlier (b .refusal) o → q ≡ earlier (a .refusal) p → r ≡ earlier (s .refusal) q → r ≡ firstRefusal s a b
 first-is s a b e1 e2 e3 e4 e5 e6 = rw (e6, e5, e4, e3, e2, e1)
 
@@ -38,15 +38,15 @@ refused-with-requires : tie.Need-refused-with-requires
 refused-with-requires c κs = search needs
 
 returns : tie.Need-returns
-unfolding settledOf
+unfolding configuredOf
 returns c = rw (← (first-is (c .before .before .before .before .before .before .before .before .args .s) (c .before .before .before .before .before .before .before .before .args .c2s) (c .before .before .before .before .before .before .before .before .args .s2c) (c .before .before .before .before .before .before .before .other-mode .ensures) (c .before .before .before .before .before .before .other-mode2 .ensures) (c .before .before .before .before .before .earlier-of .ensures) (c .before .before .before .before .earlier-of2 .ensures) (c .before .before .before .earlier-of3 .ensures) (c .before .before .earlier-of4 .ensures)), ne-eqb _ _ (c .before .if1 .taken)) (c .refused-with .ensures)
 
 returns-2 : tie.Need-returns-2
-unfolding settledOf
+unfolding configuredOf
 returns-2 c = rw (← (first-is (c .before .before .before .before .before .before .before .before .before .args .s) (c .before .before .before .before .before .before .before .before .before .args .c2s) (c .before .before .before .before .before .before .before .before .before .args .s2c) (c .before .before .before .before .before .before .before .before .other-mode .ensures) (c .before .before .before .before .before .before .before .other-mode2 .ensures) (c .before .before .before .before .before .before .earlier-of .ensures) (c .before .before .before .before .before .earlier-of2 .ensures) (c .before .before .before .before .earlier-of3 .ensures) (c .before .before .before .earlier-of4 .ensures)), eq-eqb _ _ (c .before .before .if1 .left))
 
-pub settled-spec : {M : Type 1} → statement M
-settled-spec =
+pub configured-spec : {M : Type 1} → statement M
+configured-spec =
     tie.close
     (tie.spec
     other-mode-requires
