@@ -1,8 +1,8 @@
 -- Each answer of the queue by its step.
 use Rattle.device.proofs.ReleaseSteps.{sent-copy, sent-none, sent-refused}
 use borrow.Author.Needs.{needs}
-use Rattle.device.proofs.release.sent.Statement.{statement}
-use Rattle.device.proofs.release.sent.Tie as tie
+use Rattle.device.proofs.release.sending_of.Statement.{statement}
+use Rattle.device.proofs.release.sending_of.Tie as tie
 
 enum-known-answer : tie.Need-enum-known-answer
 enum-known-answer c = search needs
@@ -31,8 +31,8 @@ returns-2 c = sent-none (c .before .before .before .before .args .released) _ _ 
 returns-3 : tie.Need-returns-3
 returns-3 c = sent-refused (c .before .before .before .before .args .released) _ _ _ _ (c .before .enum-told2 .given .1) (c .not-sent2 .ensures)
 
-pub sent-spec : {M : Type 1} → statement M
-sent-spec =
+pub sending-of-spec : {M : Type 1} → statement M
+sending-of-spec =
     tie.close
     (tie.spec
     enum-known-answer
