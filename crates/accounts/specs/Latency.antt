@@ -18,7 +18,7 @@ noLatencies = record { count = 0; «sum_ms» = whole 0; «min_ms» = whole 0; «
 unfoldable pub countedIn : ℕ → List ℕ → List ℕ
 countedIn i hist = set hist i (getD hist i 0 + 1)
 
--- the first latency is the minimum, whatever stood there; after it, a lower one (section "Accounts")
+-- the first latency is the minimum, whatever stood there; after it, a lower one (document 01, "Accounts")
 unfoldable pub minimumWithOf : ℕ → Float → Float → Float
 minimumWithOf count min x = cond (eqb count 0 || lt x min) x min
 
@@ -40,7 +40,7 @@ recordedOf l x =
 abbrev pub hasLatencies : LatencyStats → Bool
 hasLatencies l = not (eqb (l .count) 0)
 
--- the minimum of a merge (section "Accounts"): without latencies of the accountant the target's stays; a target's 0 gives way to the accountant's; any other
+-- the minimum of a merge (document 01, "Accounts"): without latencies of the accountant the target's stays; a target's 0 gives way to the accountant's; any other
 -- stays, but where the target has no latencies the smaller of the two counts
 unfoldable pub joinedMinimumOf : LatencyStats → LatencyStats → Float
 joinedMinimumOf target l =

@@ -1,4 +1,4 @@
--- The starred lines about latencies (document 01, section "Lines to check"), as theorems about the definitions.
+-- The starred lines about latencies (document 01, "Lines to check"), as theorems about the definitions.
 use mathlib.Core.Path.{_≡_, refl}
 use lib.Ieee.{neg, lt, div, ofInt}
 use Rattle.numbers.specs.Whole.{whole}

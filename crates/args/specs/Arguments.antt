@@ -7,7 +7,7 @@ use lib.ListN.{take, drop}
 use Rattle.numbers.specs.Refusals.{refusedArgument, refusedValueLacking}
 use Rattle.values.specs.Bytes.{bytes, same, has, beforeFirst, behindFirst, dash, equals}
 
--- the arguments of a text (section "Option text"): a zero byte ends each of them; a is what was read since the last one
+-- the arguments of a text (document 01, "Option text"): a zero byte ends each of them; a is what was read since the last one
 abbrev pub closed : List ℕ → List ℕ → List (List ℕ)
 closed a [] = []
 closed a (x ∷ s) = cond (eqb x 0) (a ∷ closed [] s) (closed (a ++ x ∷ []) s)

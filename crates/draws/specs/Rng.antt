@@ -12,7 +12,7 @@ use Rattle.draws.specs.declared.rng.DrawU64.{DrawU64}
 use Rattle.draws.specs.declared.rng.DrawF64.{DrawF64}
 use Rattle.draws.specs.Shifts.{xorShiftRight, xorShiftLeft, topBits, goldenGamma}
 
--- a seed is the state, but for 0, which would stay 0 (section "Draws")
+-- a seed is the state, but for 0, which would stay 0 (document 01, "Draws")
 unfoldable pub newRngOf : ℕ → Rng
 newRngOf seed = record { state = cond (eqb seed 0) goldenGamma seed }
 
@@ -40,6 +40,6 @@ fractionOf w x = mul binary64 (whole (topBits w x)) (powerBelow w)
 abbrev pub drawWidth : ℕ
 drawWidth = 53
 
--- a draw from 0 up to 1 (section "Draws")
+-- a draw from 0 up to 1 (document 01, "Draws")
 unfoldable pub nextF64Of : Rng → DrawF64
 nextF64Of g = record { rng = record { state = stepOf (g .state) }; value = fractionOf drawWidth (outputOf (g .state)) }

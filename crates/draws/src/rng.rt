@@ -50,7 +50,7 @@ impl Rng {
         DrawU64 { rng: self, value }
     }
 
-    // The top 53 bits of the next output times 2^-53, exactly.
+    // A draw: 53 bits of the next output, scaled without rounding.
     pub fn next_f64(mut self) -> DrawF64
         ensures { λ r. ⌜ r ≡ nextF64Of self ⌝ }
     {

@@ -1,4 +1,4 @@
--- Step 1 of an arrival (section "Arrival engine"), and how each decision is counted: a kill that holds as a blackout, and a reset not here.
+-- Step 1 of an arrival (document 01, "Arrival engine"), and how each decision is counted: a kill that holds as a blackout, and a reset not here.
 use mathlib.Core.Bool.{Bool, cond}
 use Prim.Native.Nat.{ℕ, _+_}
 use Rattle.accounts.specs.declared.stats.DirectionStats.{DirectionStats}

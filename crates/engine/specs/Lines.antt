@@ -1,4 +1,4 @@
--- The starred lines about arrivals (document 01, section "Lines to check"), as theorems about the definitions.
+-- The starred lines about arrivals (document 01, "Lines to check"), as theorems about the definitions.
 use mathlib.Core.Path.{_≡_, refl}
 use mathlib.Core.Bool.{false}
 use lib.Ieee.{Float, add, sub, mul, div, neg, lt, le, isNan, ofInt}

@@ -1,4 +1,4 @@
--- Which refusal meets a call, in document 01's order (section "Who can cause a refusal"). A test that does not apply to a call is passed.
+-- Which refusal meets a call, in document 01's order ("Who can cause a refusal"). A test that does not apply to a call is passed.
 use mathlib.Core.Bool.{Bool, true, _&&_}
 use mathlib.Core.List.{List, [], _∷_}
 use Prim.Native.Nat.{ℕ}

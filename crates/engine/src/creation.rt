@@ -21,7 +21,7 @@ fn next_rebind(nat_change_every_ms: u64) -> f64
     }
 }
 
-// The engine as the source starts it.
+// A full bucket, a good state and no counts.
 fn fresh(cfg: DirectionConfig, seed: u64) -> ArrivalEngine
     ensures { λ r. ⌜ r ≡ freshOf cfg seed ⌝ }
 {

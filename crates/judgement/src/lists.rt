@@ -1,4 +1,4 @@
-// The lists of a direction: only the counted entries are judged.
+// The lists of a direction: entries that are not counted may be anything.
 ghost use mathlib.Core.Path.{_≡_};
 ghost use Prim.Native.Nat.{_≤_};
 ghost use lib.ListN.{take};

@@ -1,4 +1,4 @@
--- The numbers of the refusals, as document 01 gives them in its section "Who can cause a refusal".
+-- The numbers of the refusals, as document 01 gives them under "Who can cause a refusal".
 use Prim.Native.Nat.{ℕ}
 
 -- a text that is too long

@@ -1,4 +1,4 @@
--- The starred lines about the option text (document 01, section "Lines to check"), as theorems about the definitions.
+-- The starred lines about the option text (document 01, "Lines to check"), as theorems about the definitions.
 use mathlib.Core.Path.{_≡_, refl}
 use mathlib.Core.Bool.{true, false}
 use mathlib.Core.List.{[], _∷_, _++_}

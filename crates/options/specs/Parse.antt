@@ -1,4 +1,4 @@
--- The whole option text (section "Option text"), with the source's order of checks: first the list of arguments, then the options of the line, then the two
+-- The whole option text (document 01, "Option text"), with the source's order of checks: first the list of arguments, then the options of the line, then the two
 -- directions, the client's first, and last what the mode does not have.
 use mathlib.Core.Bool.{Bool, false, _||_, cond, not}
 use mathlib.Core.List.{List, [], _∷_}

@@ -1,4 +1,4 @@
--- Blackouts and kills (sections "Records" and "Option text"): of each a direction has at most 128; one more is read and then refused by 19, if not by its own
+-- Blackouts and kills (document 01, "Records" and "Option text"): of each a direction has at most 128; one more is read and then refused by 19, if not by its own
 -- refusal.
 use mathlib.Core.Bool.{cond}
 use mathlib.Core.List.{List, [], _∷_}

@@ -1,4 +1,4 @@
--- Options that are one number (section "Option text"): the seed may be any below 2^64, a count is at most 2^53, and some may not be zero.
+-- Options that are one number (document 01, "Option text"): the seed may be any below 2^64, a count is at most 2^53, and some may not be zero.
 use mathlib.Core.Bool.{cond}
 use mathlib.Core.List.{List}
 use Prim.Native.Nat.{ℕ}

@@ -1,4 +1,4 @@
--- Windows and kills: a window holds its start and not its end (section "Arrival engine").
+-- Windows and kills: a window holds its start and not its end (document 01, "Arrival engine").
 use mathlib.Core.Bool.{Bool, _&&_, cond}
 use mathlib.Core.List.{List}
 use Prim.Native.Nat.{ℕ}

@@ -1,4 +1,4 @@
--- The chain of an arrival's steps (section "Arrival engine"), once the windows have been asked (steps 2 and 3).
+-- The chain of an arrival's steps (document 01, "Arrival engine"), once the windows have been asked (steps 2 and 3).
 use mathlib.Core.Bool.{Bool, false, cond}
 use Prim.Native.Nat.{ℕ}
 use lib.Ieee.{Float, binary64, add}

@@ -1,4 +1,4 @@
--- Step 7 of an arrival (section "Arrival engine"), the token bucket: first the credit of the time since the last refill, up to the capacity, then the charge
+-- Step 7 of an arrival (document 01, "Arrival engine"), the token bucket: first the credit of the time since the last refill, up to the capacity, then the charge
 -- for the packet, once however often it is copied. The arrival is the last refill from then on, even where its instant is an earlier one.
 use mathlib.Core.Bool.{Bool, false, cond}
 use Prim.Native.Nat.{ℕ}

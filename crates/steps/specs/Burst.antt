@@ -1,4 +1,4 @@
--- Step 5 of an arrival (section "Arrival engine"), burst loss: the state is drawn anew, and a bad one draws once more, for the packet.
+-- Step 5 of an arrival (document 01, "Arrival engine"), burst loss: the state is drawn anew, and a bad one draws once more, for the packet.
 use mathlib.Core.Bool.{Bool, false, cond, not}
 use lib.Ieee.{Float, lt}
 use Rattle.draws.specs.Rng.{nextF64Of}

@@ -1,4 +1,4 @@
--- A draw against a probability (section "Arrival engine", steps 4, 8 and 10): without a chance to hit there is none, and the generator stays.
+-- A draw against a probability (document 01, "Arrival engine", steps 4, 8 and 10): without a chance to hit there is none, and the generator stays.
 use mathlib.Core.Bool.{false, cond}
 use lib.Ieee.{Float, lt}
 use Rattle.numbers.specs.Whole.{whole}

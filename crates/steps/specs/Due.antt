@@ -1,4 +1,4 @@
--- Steps 9 to 11 of an arrival (section "Arrival engine"): what jitter and reordering add to the due, and the wait for a debt, before which nothing is due.
+-- Steps 9 to 11 of an arrival (document 01, "Arrival engine"): what jitter and reordering add to the due, and the wait for a debt, before which nothing is due.
 use mathlib.Core.Bool.{Bool, cond}
 use lib.Ieee.{Float, binary64, add, mul, lt}
 use Rattle.numbers.specs.Whole.{whole}

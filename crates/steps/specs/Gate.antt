@@ -1,4 +1,4 @@
--- Steps 2 and 3 of an arrival (section "Arrival engine"), over the counted entries of the lists.
+-- Steps 2 and 3 of an arrival (document 01, "Arrival engine"), over the counted entries of the lists.
 use mathlib.Core.Bool.{Bool, true, false, _&&_, _||_, cond, Bool·beq}
 use mathlib.Core.List.{List, [], _∷_}
 use lib.Ieee.{Float}

@@ -1,4 +1,4 @@
--- Step 6 of an arrival (section "Arrival engine"), the MTU: what is longer does not pass.
+-- Step 6 of an arrival (document 01, "Arrival engine"), the MTU: what is longer does not pass.
 use mathlib.Core.Bool.{Bool, false}
 use Prim.Native.Nat.{ℕ}
 use lib.Dec.{ltb}

@@ -12,7 +12,7 @@ pub struct Burst {
     pub hit: bool,
 }
 
-// One draw for the flip, and a second one only if the state is now bad.
+// A draw may turn the state, and a bad state draws again, for the packet.
 pub(crate) fn burst_loss(rng: Rng, bad: bool, ge: GeOption) -> Burst
     ensures { λ r. ⌜ r ≡ burstLossOf rng bad ge ⌝ }
 {

@@ -33,7 +33,7 @@ fn is_rst(style: KillStyle) -> bool
     }
 }
 
-// The first kill whose window holds the instant decides.
+// What the first kill says whose window holds the instant.
 pub fn kill_gate(kills: [TcpKill; MAX_ENTRIES], count: usize, now_ms: f64) -> Gate
     ensures { λ r. ⌜ r ≡ killGateOf (take count kills) «now_ms» ⌝ }
 {

@@ -1,4 +1,4 @@
--- Decimals (section "Option text"): behind a plus sign or none up to 15 digits, at least one, and among them a point or none.
+-- Decimals (document 01, "Option text"): behind a plus sign or none up to 15 digits, at least one, and among them a point or none.
 use mathlib.Core.Bool.{_&&_, cond}
 use mathlib.Core.List.{List, _++_}
 use Prim.Native.Nat.{ℕ}

@@ -1,4 +1,4 @@
--- Whole numbers (section "Option text"): behind a plus sign or none at least one digit, and the number is below 2^64.
+-- Whole numbers (document 01, "Option text"): behind a plus sign or none at least one digit, and the number is below 2^64.
 use mathlib.Core.Bool.{Bool, _&&_, cond}
 use mathlib.Core.List.{List, [], _∷_}
 use Prim.Native.Nat.{ℕ, _^_}

@@ -13,7 +13,7 @@ use Rattle.args.specs.declared.cursor.Arg.{Arg}
 use Rattle.args.specs.declared.cursor.Arg.the-variants.{End, Refused, Flag, Pair}
 use Rattle.args.specs.declared.cursor.Step.{Step}
 use Rattle.args.specs.Arguments.{argumentsOf, dashes, dashed, Gathered, stop, also, flag, pair, none, gather, gathered}
-use Rattle.args.specs.Places.{nextOf, keyedOf, valuedOf, goesOn}
+use Rattle.args.specs.Places.{nextOf, keyedOf, valuedOf, hasNext}
 use Rattle.args.specs.Laws.Arguments.{no-argument, first-argument}
 use Rattle.args.specs.Laws.Parts.{part-len, drop-take}
 
@@ -27,8 +27,8 @@ onward s (Pair k n v l) g = also (pair (take n (drop k s)) (take l (drop v s))) 
 -- what the step r from the place at says of the text s
 pub record Turn (s : List ℕ) (at : ℕ) (r : Step) : Type 0 where
   pub same : gathered (drop at s) ≡ onward s (r .arg) (gathered (drop (r .cursor .at) s))
-  pub further : goesOn (r .arg) ≡ true → at < r .cursor .at
-  pub within : goesOn (r .arg) ≡ true → r .cursor .at ≤ length s
+  pub further : hasNext (r .arg) ≡ true → at < r .cursor .at
+  pub within : hasNext (r .arg) ≡ true → r .cursor .at ≤ length s
 
 -- a step that stays goes no further
 pub never : {X : Type 0} → false ≡ true → X
