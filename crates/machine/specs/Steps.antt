@@ -31,9 +31,9 @@ stepTo a m = record { answer = a; then = m }
 
 -- the number of the first test that fails, or else the step
 unfoldable pub unless : Machine → Bool → Bool → Step → Step
-unless m instant length s =
+unless m instant short s =
     cond (not instant) (stepTo (refused refusedInstant) m)
-    (cond (not length) (stepTo (refused refusedLength) m)
+    (cond (not short) (stepTo (refused refusedLength) m)
     (cond (not (inRange (m .engine) (m .accounts) (m .torn) (m .nextSeq))) (stepTo (refused refusedCounter) m)
     s))
 

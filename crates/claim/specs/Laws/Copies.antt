@@ -15,7 +15,7 @@ use Rattle.numbers.specs.Limits.{maxLength, isCounterOf}
 use Rattle.numbers.specs.Refusals.{refusedFull}
 use Rattle.engine.specs.Changes.{overflowedOf}
 use Rattle.engine.specs.declared.engine.ArrivalEngine.{ArrivalEngine}
-use Rattle.engine.specs.Laws.Sound.{SoundEngine}
+use Rattle.engine.specs.Laws.Sound.{SoundEngine, overflowed-sound}
 use Rattle.held.specs.Copies.{copy}
 use Rattle.queue.specs.Calls.{pushOf, pushAgainOf}
 use Rattle.queue.specs.Refusals.{slotWidth}
@@ -35,7 +35,7 @@ use Rattle.admission.specs.Copies.{counted, firstOf, secondOf, copiesOf}
 use Rattle.admission.specs.declared.admitted.Admitted.{Admitted}
 use Rattle.claim.specs.Laws.Kept.{AllShort}
 use Rattle.claim.specs.Laws.Agree.{queueOf}
-use Rattle.claim.specs.Laws.Counts.{overflows-none, overflows-more, overflowed-sound}
+use Rattle.claim.specs.Laws.Counts.{overflows-none, overflows-more}
 use Rattle.claim.specs.Laws.Short.{short-last}
 
 -- what was admitted so far, and the machine m with the copies that entered so far

@@ -6,8 +6,6 @@ use native.Mathlib.Omega.{arith}
 use Rattle.accounts.specs.Accountant.{resetsOf}
 use Rattle.accounts.specs.declared.accountant.SendAccountant.{SendAccountant}
 use Rattle.engine.specs.Changes.{withOthers, withOverflow, overflowedOf}
-use Rattle.engine.specs.Engine.{stateOf}
-use Rattle.engine.specs.Laws.Sound.{SoundEngine}
 use Rattle.engine.specs.declared.engine.ArrivalEngine.{ArrivalEngine}
 
 pub overflows-none : (e : ArrivalEngine) → overflowedOf e 0 ≡ e
@@ -19,11 +17,6 @@ unfolding withOverflow withOthers
 overflows-more e n i =
     let regroup : e .stats .«dropped_overflow» + (n + 1) ≡ e .stats .«dropped_overflow» + n + 1 = omega arith in
     withOverflow e (regroup i)
-
--- the counter of overflow is no part of what keeps an engine sound
-pub overflowed-sound : (e : ArrivalEngine) (n : ℕ) → SoundEngine e → SoundEngine (overflowedOf e n)
-unfolding withOverflow stateOf
-overflowed-sound e n s = record { settings = s .settings; state = s .state }
 
 pub resets-none : (a : SendAccountant) → resetsOf a 0 ≡ a
 unfolding resetsOf

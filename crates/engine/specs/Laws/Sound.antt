@@ -25,6 +25,7 @@ use Rattle.steps.specs.Laws.Credit.{longestPlanned, full-credit}
 use Rattle.steps.specs.Laws.Sound.{SoundScalars, SoundState, DueFrom, arrived-sound}
 use Rattle.judgement.specs.Scalars.{isRate, scalarsOf, areScalarsOf}
 use Rattle.engine.specs.Calls.{newEngineOf, decideGivenOf, decideOf}
+use Rattle.engine.specs.Changes.{withOverflow, overflowedOf, reboundOf}
 use Rattle.engine.specs.Decide.{afterOf, decidePassedOf}
 use Rattle.engine.specs.Engine.{freshOf, stateOf}
 use Rattle.engine.specs.Laws.Refusals.{no-refusal}
@@ -73,6 +74,15 @@ unfolding newEngineOf
 new-sound cfg seed =
     cond-when (λ (c : Changed). SoundEngine (c .engine)) (isSettingsOf cfg) (λ t. fresh-sound cfg seed (is-true (isSettingsOf cfg) t))
     (fresh-sound defaultDirection 0 default-judged)
+
+-- what is counted, and the next rebind, are no part of what keeps an engine sound
+pub overflowed-sound : (e : ArrivalEngine) (n : ℕ) → SoundEngine e → SoundEngine (overflowedOf e n)
+unfolding withOverflow stateOf
+overflowed-sound e n s = record { settings = s .settings; state = s .state }
+
+pub rebound-sound : (e : ArrivalEngine) → SoundEngine e → SoundEngine (reboundOf e)
+unfolding reboundOf stateOf
+rebound-sound e s = record { settings = s .settings; state = s .state }
 
 -- ---- one arrival
 
