@@ -47,9 +47,9 @@ use Rattle.device.specs.declared.device.Device.{Device}
 use Rattle.claim.specs.Creations.{refusedCreation, CreationEnds}
 use Rattle.claim.specs.Runs.{Parses, Creates, Answered, Ran, RefusedStay}
 use Rattle.claim.specs.Laws.Answers.{answersTo}
-use Rattle.claim.specs.Laws.Creation.{create-kept, create-made, create-ends, refused-device, refused-kept}
+use Rattle.claim.specs.Laws.Creation.{create-matches, create-made, create-ends, refused-device, refused-matches}
 use Rattle.claim.specs.Laws.Exist.{parses-so, creates-so, ran-so}
-use Rattle.claim.specs.Laws.Kept.{Kept}
+use Rattle.claim.specs.Laws.Matches.{Matches}
 use Rattle.claim.specs.Laws.Ran.{parses-is, creates-is, ran-is, ran-binary64}
 use Rattle.claim.specs.Laws.Refused.{answered-stays, ran-stays}
 use Rattle.claim.specs.Laws.Runs.{calls-agree}
@@ -64,9 +64,9 @@ pub record Claimed (m : Machine) {v : Device} {t : Tables} {cs : List Call} {rs 
   pub refusals : (k : ℕ) → In (refused k) rs → Refusal k
   pub refused-stay : RefusedStay ran
 
--- of a device and tables that keep a fresh machine
-claim-of-kept : (o : Creation) {v : Device} {t : Tables} → Kept v t (freshMachine o) → {cs : List Call} {rs : List Answer} (ran : Ran v t cs rs) → Claimed (freshMachine o) ran
-claim-of-kept o {v} {t} kept {cs} {rs} ran =
+-- of a device and tables that match a fresh machine
+claim-of-matching : (o : Creation) {v : Device} {t : Tables} → Matches v t (freshMachine o) → {cs : List Call} {rs : List Answer} (ran : Ran v t cs rs) → Claimed (freshMachine o) ran
+claim-of-matching o {v} {t} matching {cs} {rs} ran =
     record {
       same = same;
       own = rw same (each-own o cs);
@@ -78,7 +78,7 @@ claim-of-kept o {v} {t} kept {cs} {rs} ran =
     }
   where
     same : rs ≡ answers (freshMachine o) cs
-    same = ran-is ran ∙ calls-agree cs (ran-binary64 ran) v t (freshMachine o) kept
+    same = ran-is ran ∙ calls-agree cs (ran-binary64 ran) v t (freshMachine o) matching
 
     three : (k : ℕ) → In (refused k) rs → Refusal k
     three = rw same (only-three-along (freshMachine o) cs)
@@ -92,12 +92,12 @@ pub claim-of-settings : {cfg : DirectionConfig} {seed salt cap : ℕ} {t : Table
     → Creates cfg seed salt cap t r → r .answer ≡ create.Created
     → {cs : List Call} {rs : List Answer} (ran : Ran (r .device) t cs rs)
     → Claimed (freshMachine (hostCreation cfg seed salt cap)) ran
-claim-of-settings {cfg} {seed} {salt} {cap} {t} {r} c made ran = claim-of-kept (hostCreation cfg seed salt cap) kept ran
+claim-of-settings {cfg} {seed} {salt} {cap} {t} {r} c made ran = claim-of-matching (hostCreation cfg seed salt cap) matching ran
   where
-    kept : Kept (r .device) t (freshMachine (hostCreation cfg seed salt cap))
-    kept =
-        subst (λ (x : Created). x .answer ≡ create.Created → Kept (x .device) t (freshMachine (hostCreation cfg seed salt cap))) (sym (creates-is c))
-        (create-kept cfg seed salt cap t) made
+    matching : Matches (r .device) t (freshMachine (hostCreation cfg seed salt cap))
+    matching =
+        subst (λ (x : Created). x .answer ≡ create.Created → Matches (x .device) t (freshMachine (hostCreation cfg seed salt cap))) (sym (creates-is c))
+        (create-matches cfg seed salt cap t) made
 
 -- the device of a refused creation too, over memory that is long enough for its capacity: that of the default settings, the generator's seed 0 and capacity 1
 pub refused-creation-agrees : {cfg : DirectionConfig} {seed salt cap : ℕ} {t : Tables} {r : Created}
@@ -105,10 +105,10 @@ pub refused-creation-agrees : {cfg : DirectionConfig} {seed salt cap : ℕ} {t :
     → {u : Tables} → Long slotWidth (refusedCreation .capacity) u
     → {cs : List Call} {rs : List Answer} (ran : Ran (r .device) u cs rs)
     → Claimed (freshMachine refusedCreation) ran
-refused-creation-agrees {r = r} c k says {u} long ran = claim-of-kept refusedCreation kept ran
+refused-creation-agrees {r = r} c k says {u} long ran = claim-of-matching refusedCreation matching ran
   where
-    kept : Kept (r .device) u (freshMachine refusedCreation)
-    kept = subst (λ (v : Device). Kept v u (freshMachine refusedCreation)) (sym (refused-device _ r k (creation-ends c) says)) (refused-kept u long)
+    matching : Matches (r .device) u (freshMachine refusedCreation)
+    matching = subst (λ (v : Device). Matches v u (freshMachine refusedCreation)) (sym (refused-device _ r k (creation-ends c) says)) (refused-matches u long)
 
 -- "A device takes the settings of one direction, which the host names"
 pub data Direction : Type 0 where

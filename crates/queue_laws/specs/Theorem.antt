@@ -11,7 +11,7 @@ use borrow.Fn.World
 use borrow.Fn.Kinds as Kinds'
 use denote.Triple.Clauses
 use Rattle.held.specs.Copies.{copy}
-use Rattle.queue.specs.Tables.{Tables, tables, After, after}
+use Rattle.queue.specs.Tables.{Tables, After, after}
 use Rattle.queue.specs.Refusals.{slotWidth}
 use Rattle.queue.specs.Calls.{createOf, pushOf, releaseOf, drainOf, payloadOf}
 use Rattle.queue.specs.declared.queue.ImpairQueue.{ImpairQueue}
@@ -40,68 +40,39 @@ use Rattle.queue.proofs.payload.Reads as payload
 use Rattle.queue.proofs.payload.Kinds as payload-kinds
 use Rattle.queue_laws.specs.Held.{Call, push as pushCall, release as releaseCall, drain as drainCall, Reply, released, noneDue, refused, plain, run}
 use Rattle.queue_laws.specs.Replies.{saidOfPush, saidOfRelease, saidOfDrain, saidByPush, saidByRelease, saidByDrain, answerTo, answersTo}
+use Rattle.queue_laws.specs.Lent.{lentTables, leftByEntry, leftByExit}
 use Rattle.queue_laws.specs.Laws.Runs.{created-agrees}
 
 -- ---- the tables that a call begins with, and those that it leaves: what is lent to be read stays
-
-abbrev pub createTables : (κs : Lifetimes.Lfts 9) → World.ArgsD create-fn.signature κs → Tables
-createTables κs a =
-    tables (now (a .1 .0)) (now (a .1 .1 .0)) (now (a .1 .1 .1 .0)) (now (a .1 .1 .1 .1 .0))
-    (now (a .1 .1 .1 .1 .1 .0)) (now (a .1 .1 .1 .1 .1 .1 .0)) (now (a .1 .1 .1 .1 .1 .1 .1 .0))
-    (now (a .1 .1 .1 .1 .1 .1 .1 .1 .0)) (now (a .1 .1 .1 .1 .1 .1 .1 .1 .1 .0))
-
-abbrev pub pushTables : (κs : Lifetimes.Lfts 10) → World.ArgsD push-fn.signature κs → Tables
-pushTables κs a =
-    tables (now (a .1 .0)) (now (a .1 .1 .0)) (now (a .1 .1 .1 .0)) (now (a .1 .1 .1 .1 .0))
-    (now (a .1 .1 .1 .1 .1 .0)) (now (a .1 .1 .1 .1 .1 .1 .0)) (now (a .1 .1 .1 .1 .1 .1 .1 .0))
-    (now (a .1 .1 .1 .1 .1 .1 .1 .1 .0)) (now (a .1 .1 .1 .1 .1 .1 .1 .1 .1 .0))
-
-abbrev pub pushLeaves : (κs : Lifetimes.Lfts 10) → World.ArgsD push-fn.signature κs → Clauses.AtExit (Kinds'.endedOf 10 push-kinds.ps push-kinds.r) κs → Tables
-pushLeaves κs a s =
-    tables (now (s .1 .0)) (now (a .1 .1 .0)) (now (s .1 .1 .1 .0)) (now (s .1 .1 .1 .1 .0))
-    (now (s .1 .1 .1 .1 .1 .0)) (now (s .1 .1 .1 .1 .1 .1 .0)) (now (s .1 .1 .1 .1 .1 .1 .1 .0))
-    (now (s .1 .1 .1 .1 .1 .1 .1 .1 .0)) (now (s .1 .1 .1 .1 .1 .1 .1 .1 .1 .0))
-
-abbrev pub releaseTables : (κs : Lifetimes.Lfts 9) → World.ArgsD release-fn.signature κs → Tables
-releaseTables κs a =
-    tables (now (a .1 .0)) (now (a .1 .1 .0)) (now (a .1 .1 .1 .0)) (now (a .1 .1 .1 .1 .0))
-    (now (a .1 .1 .1 .1 .1 .0)) (now (a .1 .1 .1 .1 .1 .1 .0)) (now (a .1 .1 .1 .1 .1 .1 .1 .0))
-    (now (a .1 .1 .1 .1 .1 .1 .1 .1 .0)) (now (a .1 .1 .1 .1 .1 .1 .1 .1 .1 .0))
-
-abbrev pub releaseLeaves : (κs : Lifetimes.Lfts 9) → World.ArgsD release-fn.signature κs → Clauses.AtExit (Kinds'.endedOf 9 release-kinds.ps release-kinds.r) κs → Tables
-releaseLeaves κs a s =
-    tables (now (s .1 .0)) (now (s .1 .1 .0)) (now (s .1 .1 .1 .0)) (now (s .1 .1 .1 .1 .0))
-    (now (a .1 .1 .1 .1 .1 .0)) (now (a .1 .1 .1 .1 .1 .1 .0)) (now (a .1 .1 .1 .1 .1 .1 .1 .0))
-    (now (a .1 .1 .1 .1 .1 .1 .1 .1 .0)) (now (a .1 .1 .1 .1 .1 .1 .1 .1 .1 .0))
 
 -- ---- calls: `Learnt` is what the function's contract ensures of its arguments, its result and the tables at exit
 
 -- a call of `create` with the capacity cap, over the tables t, returned r
 pub data Creates (cap : ℕ) (t : Tables) : Created → Type 1 where
   called : (κs : Lifetimes.Lfts 9) (a : World.ArgsD create-fn.signature κs) (r : World.ResD create-fn.signature κs) (s : Clauses.AtExit (Kinds'.endedOf 9 create-kinds.ps create-kinds.r) κs)
-      → a .0 ≡ cap → createTables κs a ≡ t
+      → a .0 ≡ cap → lentTables (a .1) ≡ t
       → create.Learnt κs a r s
       → Creates cap t r
 
 -- a call of `push` on the state q and the tables t, with what is pushed, returned r and left tables
 pub data Pushes (q : ImpairQueue) (t : Tables) (due arrival : Float) (route id : ℕ) (bytes : List ℕ) : Pushed → Tables → Type 1 where
   called : (κs : Lifetimes.Lfts 10) (a : World.ArgsD push-fn.signature κs) (r : World.ResD push-fn.signature κs) (s : Clauses.AtExit (Kinds'.endedOf 10 push-kinds.ps push-kinds.r) κs)
-      → a .0 ≡ q → pushTables κs a ≡ t
+      → a .0 ≡ q → lentTables (a .1) ≡ t
       → a .1 .1 .1 .1 .1 .1 .1 .1 .1 .1 .0 ≡ due
       → a .1 .1 .1 .1 .1 .1 .1 .1 .1 .1 .1 .0 ≡ arrival
       → a .1 .1 .1 .1 .1 .1 .1 .1 .1 .1 .1 .1 .0 ≡ route
       → a .1 .1 .1 .1 .1 .1 .1 .1 .1 .1 .1 .1 .1 .0 ≡ id
       → now (a .1 .1 .1 .1 .1 .1 .1 .1 .1 .1 .1 .1 .1 .1 .0) ≡ bytes
       → push.Learnt κs a r s
-      → Pushes q t due arrival route id bytes r (pushLeaves κs a s)
+      → Pushes q t due arrival route id bytes r (leftByEntry (lentTables (a .1)) (lentTables (s .1)))
 
 -- a call of `release` at an instant
 pub data Releases (q : ImpairQueue) (t : Tables) (instant : Float) : Released → Tables → Type 1 where
   called : (κs : Lifetimes.Lfts 9) (a : World.ArgsD release-fn.signature κs) (r : World.ResD release-fn.signature κs) (s : Clauses.AtExit (Kinds'.endedOf 9 release-kinds.ps release-kinds.r) κs)
-      → a .0 ≡ q → releaseTables κs a ≡ t
+      → a .0 ≡ q → lentTables (a .1) ≡ t
       → a .1 .1 .1 .1 .1 .1 .1 .1 .1 .1 .0 ≡ instant
       → release.Learnt κs a r s
-      → Releases q t instant r (releaseLeaves κs a s)
+      → Releases q t instant r (leftByExit (lentTables (a .1)) (lentTables (s .1)))
 
 -- a call of `drain`, which is lent no table
 pub data Drains (q : ImpairQueue) : Drained → Type 1 where

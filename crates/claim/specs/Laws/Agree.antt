@@ -24,14 +24,14 @@ use Rattle.machine.specs.Machine.{Machine, inRange}
 use Rattle.machine.specs.Steps.{Step, stepTo, unless}
 use Rattle.device.specs.Refusals.{refusalOf, callRefusal}
 use Rattle.device.specs.declared.device.Device.{Device}
-use Rattle.claim.specs.Laws.Kept.{AllShort, Kept}
+use Rattle.claim.specs.Laws.Matches.{AllShort, Matches}
 
--- the call answers as the step does, and the device and tables that it leaves keep the machine that the step leaves
+-- the call answers as the step does, and the device and tables that it leaves match the machine that the step leaves
 pub record Agrees (a : Answer) (v : Device) (t : Tables) (s : Step) : Type 0 where
   pub says : a ≡ s .answer
-  pub keeps : Kept v t (s .then)
+  pub matches : Matches v t (s .then)
 
--- ---- the device that keeps a machine
+-- ---- the device that matches a machine
 
 -- the plain queue of a machine
 abbrev pub queueOf : Machine → Plain
@@ -41,16 +41,16 @@ queueOf m = plain (m .cap) (m .held) (m .nextSeq)
 abbrev pub deviceOf : Machine → ImpairQueue → Device
 deviceOf m q = record { engine = m .engine; queue = q; accounts = m .accounts; torn = m .torn }
 
-is-device : (v : Device) (t : Tables) (m : Machine) → Kept v t m → v ≡ deviceOf m (v .queue)
+is-device : (v : Device) (t : Tables) (m : Machine) → Matches v t m → v ≡ deviceOf m (v .queue)
 is-device v t m k i = record { engine = k .engine i; queue = v .queue; accounts = k .accounts i; torn = k .torn i }
 
--- what holds of that device holds of each that keeps the machine
-pub of-device : (P : Device → Type 0) (v : Device) (t : Tables) (m : Machine) → Kept v t m → P (deviceOf m (v .queue)) → P v
+-- what holds of that device holds of each that matches the machine
+pub of-device : (P : Device → Type 0) (v : Device) (t : Tables) (m : Machine) → Matches v t m → P (deviceOf m (v .queue)) → P v
 of-device P v t m k p = subst P (sym (is-device v t m k)) p
 
--- that device keeps the machine where the queue keeps its list
-pub kept-parts : (m : Machine) (q : ImpairQueue) (t : Tables) → Keeps slotWidth t q (queueOf m) → SoundEngine (m .engine) → AllShort (m .held) → Kept (deviceOf m q) t m
-kept-parts m q t keeps sound short = record { engine = refl; accounts = refl; torn = refl; queue = keeps; sound = sound; short = short }
+-- that device matches the machine where the queue keeps its list
+pub parts-match : (m : Machine) (q : ImpairQueue) (t : Tables) → Keeps slotWidth t q (queueOf m) → SoundEngine (m .engine) → AllShort (m .held) → Matches (deviceOf m q) t m
+parts-match m q t keeps sound short = record { engine = refl; accounts = refl; torn = refl; queue = keeps; sound = sound; short = short }
 
 -- ---- refusals
 

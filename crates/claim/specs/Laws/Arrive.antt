@@ -43,8 +43,8 @@ use Rattle.device.specs.declared.answers.ArriveAnswer.the-variants as answer
 use Rattle.device.specs.declared.answers.Arrived.{Arrived}
 use Rattle.device.specs.declared.device.Device.{Device}
 use Rattle.claim.specs.Replies.{saidOfArrive}
-use Rattle.claim.specs.Laws.Kept.{Kept, AllShort}
-use Rattle.claim.specs.Laws.Agree.{Agrees, queueOf, deviceOf, of-device, kept-parts, Passed, by-refusal, drains-all}
+use Rattle.claim.specs.Laws.Matches.{Matches, AllShort}
+use Rattle.claim.specs.Laws.Agree.{Agrees, queueOf, deviceOf, of-device, parts-match, Passed, by-refusal, drains-all}
 use Rattle.claim.specs.Laws.Copies.{Entering, Pushable, copies-enter}
 use Rattle.claim.specs.Laws.Counts.{overflows-none, resets-none}
 
@@ -77,7 +77,7 @@ unfolding settledOf answerOf
 settled m q d f entered overflowed torn n h =
     record {
       says = answered (d .decision) (f .gives .number) (f .gives .entered) (f .gives .overflowed) (f .gives .torn) entered overflowed torn (h .number) (h .enters) (h .overflows) (h .tears);
-      keeps = record { engine = h .engine; accounts = h .accounts; torn = h .all-torn; queue = h .queue; sound = h .sound; short = h .short };
+      matches = record { engine = h .engine; accounts = h .accounts; torn = h .all-torn; queue = h .queue; sound = h .sound; short = h .short };
     }
 
 module _ (m : Machine) (q : ImpairQueue) (t : Tables) (keeps : Keeps slotWidth t q (queueOf m)) (sound : SoundEngine (m .engine)) (short : AllShort (m .held)) where
@@ -173,17 +173,17 @@ module _ (m : Machine) (q : ImpairQueue) (t : Tables) (keeps : Keeps slotWidth t
     decides : Passed m (isInstantOf now) (isLengthOf (length bytes))
         → ArriveAgrees (settledIn (deviceOf m q) decision (followOf slotWidth q t (decision .decision) now route bytes)) (follow (withEngine m (decision .engine)) (decision .decision) now bytes route)
     decides p =
-        let kept = passed-sound (m .engine) now (length bytes) sound (record { fit = fit; bounded = instant-bounded now (p .instant-passes); short = omega (arith, length-within (length bytes) (p .length-passes)) }) in
-        followed p (decision .engine) (kept .0) (decision .decision) (kept .1)
+        let still = passed-sound (m .engine) now (length bytes) sound (record { fit = fit; bounded = instant-bounded now (p .instant-passes); short = omega (arith, length-within (length bytes) (p .length-passes)) }) in
+        followed p (decision .engine) (still .0) (decision .decision) (still .1)
 
     arrive-parts : ArriveAgrees (arriveOf slotWidth (deviceOf m q) t now bytes route) (step m (arrive now bytes route))
     unfolding arriveOf step arriveStep
     arrive-parts =
-        by-refusal ArriveAgrees m _ (λ (n : ℕ). after (notArrived (deviceOf m q) n) t) _ (λ (n : ℕ). record { says = refl; keeps = kept-parts m q t keeps sound short })
+        by-refusal ArriveAgrees m _ (λ (n : ℕ). after (notArrived (deviceOf m q) n) t) _ (λ (n : ℕ). record { says = refl; matches = parts-match m q t keeps sound short })
         q (keeps .same-next) (memoryOf slotWidth (q .cap) t) (isInstantOf now) (isLengthOf (length bytes)) (long-memory slotWidth (q .cap) t (keeps .long)) decides
 
-pub arrive-kept : (v : Device) (t : Tables) (m : Machine) → Kept v t m → (now : Float) (bytes : List ℕ) (route : ℕ) → T (fits binary64 now)
+pub arrive-matches : (v : Device) (t : Tables) (m : Machine) → Matches v t m → (now : Float) (bytes : List ℕ) (route : ℕ) → T (fits binary64 now)
     → ArriveAgrees (arriveOf slotWidth v t now bytes route) (step m (arrive now bytes route))
-arrive-kept v t m k now bytes route fit =
+arrive-matches v t m k now bytes route fit =
     of-device (λ (w : Device). ArriveAgrees (arriveOf slotWidth w t now bytes route) (step m (arrive now bytes route))) v t m k
     (arrive-parts m (v .queue) t (k .queue) (k .short) now bytes route (k .sound) fit)

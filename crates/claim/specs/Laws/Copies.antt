@@ -33,7 +33,7 @@ use Rattle.machine.specs.Steps.{Entry, entry, withEngine, withCopy, enterCopy, 
 use Rattle.admission.specs.Admitted.{untouched, talliedBy}
 use Rattle.admission.specs.Copies.{counted, firstOf, secondOf, copiesOf}
 use Rattle.admission.specs.declared.admitted.Admitted.{Admitted}
-use Rattle.claim.specs.Laws.Kept.{AllShort}
+use Rattle.claim.specs.Laws.Matches.{AllShort}
 use Rattle.claim.specs.Laws.Agree.{queueOf}
 use Rattle.claim.specs.Laws.Counts.{overflows-none, overflows-more}
 use Rattle.claim.specs.Laws.Short.{short-last}

@@ -1,4 +1,4 @@
--- A device that was created keeps the fresh machine of what the host named, and that of a refused creation the one of `refusedCreation`.
+-- A device that was created matches the fresh machine of what the host named, and the device of a refused creation that of `refusedCreation`.
 use mathlib.Core.Path.{_≡_, refl, sym, ap, _∙_}
 use mathlib.Core.Logic.{inl, inr}
 use mathlib.Core.Bool.{Bool, true, false, not, _&&_}
@@ -33,12 +33,12 @@ use Rattle.device.specs.Creation.{notCreated, queuedBy, queuedOn, createdBy, cr
 use Rattle.device.specs.declared.answers.CreateAnswer.the-variants as answer
 use Rattle.device.specs.declared.answers.Created.{Created}
 use Rattle.claim.specs.Creations.{newDevice, refusedCreation, CreationRefusal, CreationEnds}
-use Rattle.claim.specs.Laws.Kept.{Kept}
+use Rattle.claim.specs.Laws.Matches.{Matches}
 
 module _ (cfg : DirectionConfig) (seed salt cap : ℕ) (t : Tables) where
   -- what a creation that says Created gives
   abbrev Fresh : Created → Type 0
-  Fresh c = c .answer ≡ answer.Created → Kept (c .device) t (freshMachine (hostCreation cfg seed salt cap))
+  Fresh c = c .answer ≡ answer.Created → Matches (c .device) t (freshMachine (hostCreation cfg seed salt cap))
 
   not-created : (k : ℕ) → Fresh (notCreated k)
   unfolding notCreated
@@ -51,9 +51,9 @@ module _ (cfg : DirectionConfig) (seed salt cap : ℕ) (t : Tables) where
   queued settings (made.Refused n) q keeps h = not-created n h
 
   -- a creation that was not refused
-  pub create-kept : createOf slotWidth cfg seed salt cap t .answer ≡ answer.Created → Kept (createOf slotWidth cfg seed salt cap t .device) t (freshMachine (hostCreation cfg seed salt cap))
+  pub create-matches : createOf slotWidth cfg seed salt cap t .answer ≡ answer.Created → Matches (createOf slotWidth cfg seed salt cap t .device) t (freshMachine (hostCreation cfg seed salt cap))
   unfolding createOf createdBy newEngineOf
-  create-kept = go (isSettingsOf cfg) refl
+  create-matches = go (isSettingsOf cfg) refl
     where
       go : (b : Bool) → isSettingsOf cfg ≡ b → Fresh (createOf slotWidth cfg seed salt cap t)
       go true e = rw e (queued e (queueCreateOf slotWidth cap t .answer) (queueCreateOf slotWidth cap t .queue) (create-keeps slotWidth cap t))
@@ -90,10 +90,10 @@ refused-device o r k (inl made) refused =
     absurd (omega arith)
 refused-device o r k (inr (n, by, is)) refused = ap (λ (c : Created). c .device) is
 
--- it keeps the fresh machine of its own making, over memory that is long enough for capacity 1
-pub refused-kept : (t : Tables) → Long slotWidth (refusedCreation .capacity) t → Kept (newDevice refusedCreation) t (freshMachine refusedCreation)
+-- it matches the fresh machine of its own making, over memory that is long enough for capacity 1
+pub refused-matches : (t : Tables) → Long slotWidth (refusedCreation .capacity) t → Matches (newDevice refusedCreation) t (freshMachine refusedCreation)
 unfolding freshMachine
-refused-kept t long =
+refused-matches t long =
     record {
       engine = refl;
       accounts = refl;

@@ -40,8 +40,8 @@ use Rattle.device.specs.declared.answers.TornDown.{TornDown}
 use Rattle.device.specs.declared.answers.Reported.{Reported}
 use Rattle.device.specs.declared.device.Device.{Device}
 use Rattle.claim.specs.Replies.{saidOfRebind, saidOfTeardown, saidOfReport}
-use Rattle.claim.specs.Laws.Kept.{Kept, AllShort}
-use Rattle.claim.specs.Laws.Agree.{Agrees, queueOf, deviceOf, of-device, kept-parts, Passed, by-refusal, drains-all}
+use Rattle.claim.specs.Laws.Matches.{Matches, AllShort}
+use Rattle.claim.specs.Laws.Agree.{Agrees, queueOf, deviceOf, of-device, parts-match, Passed, by-refusal, drains-all}
 
 -- ---- rebind
 
@@ -68,20 +68,20 @@ TeardownAgrees t o s = Agrees (saidOfTeardown (o .answer)) (o .device) t s
 -- ---- the three calls on the device of a machine's parts and a queue that keeps its list
 
 module _ (m : Machine) (q : ImpairQueue) (t : Tables) (keeps : Keeps slotWidth t q (queueOf m)) (sound : SoundEngine (m .engine)) (short : AllShort (m .held)) where
-  kept : Kept (deviceOf m q) t m
-  kept = kept-parts m q t keeps sound short
+  matching : Matches (deviceOf m q) t m
+  matching = parts-match m q t keeps sound short
 
   by-time : (b : Bool)
       → RebindAgrees t (reboundBy (byTime (m .engine) b .answer) (deviceOf (withEngine m (byTime (m .engine) b .engine)) q))
       (cond b (stepTo (rebound true) (withEngine m (reboundOf (m .engine)))) (stepTo (rebound false) m))
   unfolding reboundBy
-  by-time true = record { says = refl; keeps = kept-parts (withEngine m (reboundOf (m .engine))) q t keeps (rebound-sound (m .engine) sound) short }
-  by-time false = record { says = refl; keeps = kept }
+  by-time true = record { says = refl; matches = parts-match (withEngine m (reboundOf (m .engine))) q t keeps (rebound-sound (m .engine) sound) short }
+  by-time false = record { says = refl; matches = matching }
 
   rebind-parts : (now : Float) → RebindAgrees t (rebindOf (deviceOf m q) now) (step m (rebind now))
   unfolding rebindOf step rebindStep
   rebind-parts now =
-      by-refusal (RebindAgrees t) m _ (λ (n : ℕ). notRebound (deviceOf m q) n) _ (λ (n : ℕ). record { says = refl; keeps = kept })
+      by-refusal (RebindAgrees t) m _ (λ (n : ℕ). notRebound (deviceOf m q) n) _ (λ (n : ℕ). record { says = refl; matches = matching })
       q (keeps .same-next) true (isInstantOf now) true refl
       (λ (p : Passed m (isInstantOf now) true).
       rw (rebinds (m .engine) now (judges (m .engine) (isInstantOf now) (sound .settings) (p .instant-passes) (p .engine))) (by-time (le (m .engine .«next_rebind_ms») now)))
@@ -93,13 +93,13 @@ module _ (m : Machine) (q : ImpairQueue) (t : Tables) (keeps : Keeps slotWidth t
   unfolding tornBy
   torn-down (drain.Drained n) r says empty =
       let same : n ≡ length (m .held) = cc in
-      rw same (record { says = refl; keeps = kept-parts (tear m) r t empty sound tt })
+      rw same (record { says = refl; matches = parts-match (tear m) r t empty sound tt })
   torn-down (drain.Refused k) r says empty = let z : _≡_ {A = ℕ} 0 1 = cc in absurd (omega arith)
 
   teardown-parts : TeardownAgrees t (teardownOf (deviceOf m q)) (step m teardown)
   unfolding teardownOf step teardownStep
   teardown-parts =
-      by-refusal (TeardownAgrees t) m _ (λ (n : ℕ). notTorn (deviceOf m q) n) _ (λ (n : ℕ). record { says = refl; keeps = kept })
+      by-refusal (TeardownAgrees t) m _ (λ (n : ℕ). notTorn (deviceOf m q) n) _ (λ (n : ℕ). record { says = refl; matches = matching })
       q (keeps .same-next) true true true refl
       (λ (p : Passed m true true).
       let a = drains-all m q t keeps (p .next) in
@@ -111,19 +111,19 @@ module _ (m : Machine) (q : ImpairQueue) (t : Tables) (keeps : Keeps slotWidth t
   unfolding reportOf step reportStep
   report-parts =
       by-refusal (λ (r : Reported) (s : Step). Agrees (saidOfReport r) (deviceOf m q) t s) m _ (λ (n : ℕ). reportedWith (deviceOf m q) (m .engine .stats) (outcome.Refused n)) _
-      (λ (n : ℕ). record { says = refl; keeps = kept })
+      (λ (n : ℕ). record { says = refl; matches = matching })
       q (keeps .same-next) true true true refl
       (λ (p : Passed m true true).
       rw (merge-done (m .accounts) (m .engine .stats) (both _ _ (p .accounts) (both-true (isCounterOf (m .engine .«rebinds_done»)) (areCounters (statsCounters (m .engine .stats))) (p .engine) .1)))
-      (record { says = ap (λ (n : ℕ). reported (mergedOf (m .accounts) (m .engine .stats)) n (m .torn)) (keeps .count); keeps = kept }))
+      (record { says = ap (λ (n : ℕ). reported (mergedOf (m .accounts) (m .engine .stats)) n (m .torn)) (keeps .count); matches = matching }))
 
-module _ (v : Device) (t : Tables) (m : Machine) (k : Kept v t m) where
-  pub rebind-kept : (now : Float) → RebindAgrees t (rebindOf v now) (step m (rebind now))
-  rebind-kept now = of-device (λ (w : Device). RebindAgrees t (rebindOf w now) (step m (rebind now))) v t m k (rebind-parts m (v .queue) t (k .queue) (k .sound) (k .short) now)
+module _ (v : Device) (t : Tables) (m : Machine) (k : Matches v t m) where
+  pub rebind-matches : (now : Float) → RebindAgrees t (rebindOf v now) (step m (rebind now))
+  rebind-matches now = of-device (λ (w : Device). RebindAgrees t (rebindOf w now) (step m (rebind now))) v t m k (rebind-parts m (v .queue) t (k .queue) (k .sound) (k .short) now)
 
-  pub teardown-kept : TeardownAgrees t (teardownOf v) (step m teardown)
-  teardown-kept = of-device (λ (w : Device). TeardownAgrees t (teardownOf w) (step m teardown)) v t m k (teardown-parts m (v .queue) t (k .queue) (k .sound) (k .short))
+  pub teardown-matches : TeardownAgrees t (teardownOf v) (step m teardown)
+  teardown-matches = of-device (λ (w : Device). TeardownAgrees t (teardownOf w) (step m teardown)) v t m k (teardown-parts m (v .queue) t (k .queue) (k .sound) (k .short))
 
   -- the device stays as it is
-  pub report-kept : Agrees (saidOfReport (reportOf v)) v t (step m report)
-  report-kept = of-device (λ (w : Device). Agrees (saidOfReport (reportOf w)) w t (step m report)) v t m k (report-parts m (v .queue) t (k .queue) (k .sound) (k .short))
+  pub report-matches : Agrees (saidOfReport (reportOf v)) v t (step m report)
+  report-matches = of-device (λ (w : Device). Agrees (saidOfReport (reportOf w)) w t (step m report)) v t m k (report-parts m (v .queue) t (k .queue) (k .sound) (k .short))

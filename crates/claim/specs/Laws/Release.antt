@@ -37,8 +37,8 @@ use Rattle.device.specs.declared.answers.Released.{Released}
 use Rattle.device.specs.declared.device.Device.{Device}
 use Rattle.device.specs.declared.release.Sending.{Sending}
 use Rattle.claim.specs.Replies.{saidOfRelease}
-use Rattle.claim.specs.Laws.Kept.{Kept, AllShort}
-use Rattle.claim.specs.Laws.Agree.{Agrees, queueOf, deviceOf, of-device, kept-parts, Passed, by-refusal}
+use Rattle.claim.specs.Laws.Matches.{Matches, AllShort}
+use Rattle.claim.specs.Laws.Agree.{Agrees, queueOf, deviceOf, of-device, parts-match, Passed, by-refusal}
 use Rattle.claim.specs.Laws.Short.{short-mem, short-without}
 
 -- a release that agrees with a step
@@ -64,7 +64,7 @@ module _ (m : Machine) (sound : SoundEngine (m .engine)) (short : AllShort (m .h
       → ReleaseAgrees (after (sentWith (deviceOf m q) (sendingBy a q (m .accounts) now)) t) (stepTo noneDue m)
   unfolding sendingBy
   none-left (answer.Released c) q t says keeps = let z : _≡_ {A = ℕ} 0 1 = cc in absurd (omega arith)
-  none-left answer.NoneDue q t says keeps = record { says = refl; keeps = kept-parts m q t keeps sound short }
+  none-left answer.NoneDue q t says keeps = record { says = refl; matches = parts-match m q t keeps sound short }
   none-left (answer.Refused k) q t says keeps = let z : _≡_ {A = ℕ} 0 1 = cc in absurd (omega arith)
 
   module _ (counted : areCounters (accountantCounters (m .accounts)) ≡ true) where
@@ -74,7 +74,7 @@ module _ (m : Machine) (sound : SoundEngine (m .engine)) (short : AllShort (m .h
     handed-out x q t within keeps =
         subst (λ (o : Sending). ReleaseAgrees (after (sentWith (deviceOf m q) o) t) (stepTo (released (copyOf slotWidth (t .store) x)) (leave m now (copyOf slotWidth (t .store) x))))
         (sym (accounted m q x now within counted))
-        (record { says = refl; keeps = kept-parts (leave m now (copyOf slotWidth (t .store) x)) q t keeps sound (short-without (x .seq) (m .held) short) })
+        (record { says = refl; matches = parts-match (leave m now (copyOf slotWidth (t .store) x)) q t keeps sound (short-without (x .seq) (m .held) short) })
 
     one-left : (c : Copy) → c .length ≤ maxLength → (a : ReleaseAnswer) (q : ImpairQueue) (t : Tables) → queueSays slotWidth (t .store) a ≡ queueReleased c
         → Keeps slotWidth t q (plain (m .cap) (without (c .seq) (m .held)) (m .nextSeq))
@@ -113,8 +113,8 @@ module _ (m : Machine) (q : ImpairQueue) (t : Tables) (now : Float) (keeps : Kee
   unfolding releaseOf step releaseStep
   from-parts =
       by-refusal ReleaseAgrees m (sentIn (deviceOf m q) (queueReleaseOf slotWidth q t now) now) (λ (n : ℕ). after (notReleased (deviceOf m q) (answer.Refused n)) t) (handOut m now (leaving now (m .held)))
-      (λ (n : ℕ). record { says = refl; keeps = kept-parts m q t keeps sound short })
+      (λ (n : ℕ). record { says = refl; matches = parts-match m q t keeps sound short })
       q (keeps .same-next) (memoryOf slotWidth (q .cap) t) (isInstantOf now) true (long-memory slotWidth (q .cap) t (keeps .long)) left
 
-pub release-kept : (v : Device) (t : Tables) (m : Machine) → Kept v t m → (now : Float) → ReleaseAgrees (releaseOf slotWidth v t now) (step m (release now))
-release-kept v t m k now = of-device (λ (w : Device). ReleaseAgrees (releaseOf slotWidth w t now) (step m (release now))) v t m k (from-parts m (v .queue) t now (k .queue) (k .sound) (k .short))
+pub release-matches : (v : Device) (t : Tables) (m : Machine) → Matches v t m → (now : Float) → ReleaseAgrees (releaseOf slotWidth v t now) (step m (release now))
+release-matches v t m k now = of-device (λ (w : Device). ReleaseAgrees (releaseOf slotWidth w t now) (step m (release now))) v t m k (from-parts m (v .queue) t now (k .queue) (k .sound) (k .short))

@@ -7,7 +7,7 @@ use Prim.Native.Nat.{ℕ, _≤_}
 use lib.Dec.{eqb}
 use Rattle.numbers.specs.Limits.{maxLength}
 use Rattle.held.specs.Copies.{Copy, without, Mem}
-use Rattle.claim.specs.Laws.Kept.{AllShort}
+use Rattle.claim.specs.Laws.Matches.{AllShort}
 
 pub short-mem : (c : Copy) (l : List Copy) → Mem c l → AllShort l → c .length ≤ maxLength
 short-mem c [] m s = absurd m

@@ -18,7 +18,7 @@ AllShort [] = Unit {0}
 AllShort (c ∷ l) = (c .length ≤ maxLength) × AllShort l
 
 -- the parts are the machine's, the tables hold its list, its engine is sound, and its copies are short
-pub record Kept (v : Device) (t : Tables) (m : Machine) : Type 0 where
+pub record Matches (v : Device) (t : Tables) (m : Machine) : Type 0 where
   pub engine : v .engine ≡ m .engine
   pub accounts : v .accounts ≡ m .accounts
   pub torn : v .torn ≡ m .torn
