@@ -1,4 +1,4 @@
--- The send accountant: one packet sent, and its counts joined to the statistics of a direction.
+-- The send accountant: one packet sent, resets, and its counts joined to the statistics of a direction.
 use Prim.Native.Nat.{ℕ, _+_}
 use lib.Ieee.{Float}
 use Rattle.accounts.specs.declared.accountant.SendAccountant.{SendAccountant}
@@ -20,6 +20,18 @@ sentOf a n x =
       «tcp_rst_kills» = a .«tcp_rst_kills»;
       «nat_rebinds» = a .«nat_rebinds»;
       latency = recordedOf (a .latency) x;
+    }
+
+-- n resets of connections more
+unfoldable pub resetsOf : SendAccountant → ℕ → SendAccountant
+resetsOf a n =
+    record {
+      «sent_pkts» = a .«sent_pkts»;
+      «sent_bytes» = a .«sent_bytes»;
+      «dropped_overflow» = a .«dropped_overflow»;
+      «tcp_rst_kills» = a .«tcp_rst_kills» + n;
+      «nat_rebinds» = a .«nat_rebinds»;
+      latency = a .latency;
     }
 
 -- the statistics with the accountant's counters added

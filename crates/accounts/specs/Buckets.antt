@@ -12,11 +12,11 @@ boundsMs = 1 ∷ 2 ∷ 5 ∷ 10 ∷ 20 ∷ 50 ∷ 100 ∷ 200 ∷ 500 ∷ 1000 �
 unfoldable pub bounds : List Float
 bounds = map whole boundsMs
 
--- the place of the first bound above the latency, and the number of bounds where none is above it
+-- how many bounds stand before the first that is above x; all, where none is
 abbrev pub firstAbove : Float → List Float → ℕ
 firstAbove x [] = 0
 firstAbove x (b ∷ bs) = cond (lt x b) 0 (suc (firstAbove x bs))
 
--- "bucket_index gives the first bound above the latency, 11 for NaN or ≥ 5000."
+-- the bucket of a latency (document 01, "Accounts"); a NaN is below no bound
 unfoldable pub bucketIndexOf : Float → ℕ
 bucketIndexOf x = firstAbove x bounds

@@ -1,4 +1,4 @@
--- Refusal 25: a counter of a record that is handed in is 2^60 or more.
+-- The counters that refusal 25 judges, record by record.
 use mathlib.Core.Bool.{Bool, true, _&&_}
 use mathlib.Core.List.{List, [], _∷_}
 use Prim.Native.Nat.{ℕ}
@@ -19,7 +19,7 @@ unfoldable pub statsCounters : DirectionStats → List ℕ
 statsCounters s =
     s .«received_pkts» ∷ s .«received_bytes» ∷ s .«sent_pkts» ∷ s .«sent_bytes» ∷ s .«dropped_random» ∷ s .«dropped_ge» ∷ s .«dropped_mtu» ∷ s .«dropped_blackout» ∷ s .«dropped_overflow» ∷ s .duplicates ∷ s .«reorder_hits» ∷ s .«rate_deferred» ∷ s .«nat_rebinds» ∷ s .«tcp_rst_kills» ∷ latencyCounters (latenciesOf s)
 
--- whether no counter of a list is 2 ^ 60 or more
+-- whether each counter of a list is below the limit
 abbrev pub areCounters : List ℕ → Bool
 areCounters [] = true
 areCounters (n ∷ ns) = isCounterOf n && areCounters ns

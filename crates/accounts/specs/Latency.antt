@@ -18,11 +18,11 @@ noLatencies = record { count = 0; «sum_ms» = whole 0; «min_ms» = whole 0; «
 unfoldable pub countedIn : ℕ → List ℕ → List ℕ
 countedIn i hist = set hist i (getD hist i 0 + 1)
 
--- "The first latency sets the minimum"; after it, a lower one does
+-- the first latency is the minimum, whatever stood there; after it, a lower one (document 01, "Accounts")
 unfoldable pub minimumWithOf : ℕ → Float → Float → Float
 minimumWithOf count min x = cond (eqb count 0 || lt x min) x min
 
--- "the maximum starts at 0": a higher latency sets it
+-- a latency above the maximum is the new one
 unfoldable pub maximumWithOf : Float → Float → Float
 maximumWithOf max x = cond (lt max x) x max
 
@@ -40,8 +40,8 @@ recordedOf l x =
 abbrev pub hasLatencies : LatencyStats → Bool
 hasLatencies l = not (eqb (l .count) 0)
 
--- "where the accountant has latencies, takes over its minimum if the target's is 0; if that is not 0, the smaller where the target had no latencies,
--- else the target's"
+-- the minimum of a merge (document 01, "Accounts"): without latencies of the accountant the target's stays; a target's 0 gives way to the accountant's; any other
+-- stays, but where the target has no latencies the smaller of the two counts
 unfoldable pub joinedMinimumOf : LatencyStats → LatencyStats → Float
 joinedMinimumOf target l =
     cond (hasLatencies l)

@@ -5,9 +5,9 @@ use Prim.Native.Nat.{ℕ, suc}
 use lib.Dec.{eqb}
 use lib.ListN.{take, drop}
 use Rattle.numbers.specs.Refusals.{refusedArgument, refusedValueLacking}
-use Rattle.values.specs.Bytes.{bytes, same, has, before, behind, dash, equals}
+use Rattle.values.specs.Bytes.{bytes, same, has, beforeFirst, behindFirst, dash, equals}
 
--- "Arguments lie end to end, each closed by a zero byte": a is what was read since the last one
+-- the arguments of a text (document 01, "Option text"): a zero byte ends each of them; a is what was read since the last one
 abbrev pub closed : List ℕ → List ℕ → List (List ℕ)
 closed a [] = []
 closed a (x ∷ s) = cond (eqb x 0) (a ∷ closed [] s) (closed (a ++ x ∷ []) s)
@@ -15,7 +15,7 @@ closed a (x ∷ s) = cond (eqb x 0) (a ∷ closed [] s) (closed (a ++ x ∷ []) 
 abbrev pub argumentsOf : List ℕ → List (List ℕ)
 argumentsOf s = closed [] s
 
--- "All `--` pairs at the front are stripped": how many bytes they have, and the key without them
+-- how many bytes the `--` pairs in front of a key have, and the key without them
 abbrev pub dashes : List ℕ → ℕ
 dashes [] = 0
 dashes (x ∷ []) = 0
@@ -28,9 +28,9 @@ stripped k = drop (dashes k) k
 abbrev pub dashed : List ℕ → Bool
 dashed a = same (take 2 a) (bytes "--")
 
--- "The first `=` parts key and value"
+-- the key of an argument: what stands before the first `=`, without its dashes
 abbrev pub keyOf : List ℕ → List ℕ
-keyOf a = stripped (before equals a)
+keyOf a = stripped (beforeFirst equals a)
 
 -- a bare flag, or a key and its value
 pub data Item : Type 0 where
@@ -53,21 +53,21 @@ pub data Waiting : Type 0 where
   none : Waiting
   for : List ℕ → Waiting
 
--- "otherwise the next argument is the value, even one starting `--`. Only `verbose` takes none, and `--verbose=V` is kept as a scalar"
+-- a key and its value, from one argument with an `=` or from two, whatever the second starts with; `verbose` alone is a flag
 abbrev pub gather : Waiting → List (List ℕ) → Gathered
 gather none [] = stop 0
 gather (for k) [] = stop refusedValueLacking
 gather (for k) (v ∷ rest) = also (pair k v) (gather none rest)
 gather none (a ∷ rest) =
     cond (dashed a)
-    (cond (has equals a) (also (pair (keyOf a) (behind equals a)) (gather none rest))
+    (cond (has equals a) (also (pair (keyOf a) (behindFirst equals a)) (gather none rest))
     (cond (same (keyOf a) (bytes "verbose")) (also flag (gather none rest)) (gather (for (keyOf a)) rest)))
     (stop refusedArgument)
 
 unfoldable pub gathered : List ℕ → Gathered
 gathered s = gather none (argumentsOf s)
 
--- "Keys ending `-blackout` or `-kill` gather in order": the values of a key, in order
+-- the values of a key, in the order of the text
 abbrev pub valuesIn : List ℕ → List Item → List (List ℕ)
 valuesIn k [] = []
 valuesIn k (flag ∷ is) = valuesIn k is
@@ -82,7 +82,7 @@ flagIn [] = false
 flagIn (flag ∷ is) = true
 flagIn (pair a v ∷ is) = flagIn is
 
--- "The last scalar counts"
+-- the last of several values of a key, where there is one
 pub data Value : Type 0 where
   absent : Value
   given : List ℕ → Value

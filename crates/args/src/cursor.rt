@@ -1,4 +1,4 @@
-// A cursor over the arguments of a text, each closed by a zero byte.
+// A cursor over the arguments of a text; a zero byte ends each.
 ghost use mathlib.Core.Path.{_≡_};
 ghost use mathlib.Core.List.{_++_};
 ghost use Prim.Native.Nat.{_+_, _≤_};

@@ -24,8 +24,8 @@ use Prim.Native.Nat.{ℕ, _<_, _≤_}
 use lib.ListN.{length}
 use Rattle.numbers.specs.Limits.{maxCapacity}
 use Rattle.numbers.specs.Refusals.{refusedKeeping}
-use Rattle.options.specs.Judgement.{isSettingsOf}
-use Rattle.options.specs.Laws.Judgement.{parse-sound}
+use Rattle.judgement.specs.Settings.{isSettingsOf}
+use Rattle.judgement.specs.Laws.Parsed.{parse-sound}
 use Rattle.options.specs.Parse.{parseOf}
 use Rattle.options.specs.declared.config.Config.{Config}
 use Rattle.options.specs.declared.config.DirectionConfig.{DirectionConfig}
@@ -35,7 +35,7 @@ use Rattle.queue.specs.Tables.{Tables}
 use Rattle.queue_laws.specs.Laws.Keeps.{Long}
 use Rattle.machine.specs.Arrivals.{EachOwn}
 use Rattle.machine.specs.Bare.{bareCalls, bareAnswers}
-use Rattle.machine.specs.Calls.{Call, Answer, refused, Refusal, In}
+use Rattle.machine.specs.Calls.{Call, Answer, refused, Refusal, In, Binary64}
 use Rattle.machine.specs.Machine.{Machine, Creation, hostCreation, freshMachine}
 use Rattle.machine.specs.Steps.{answers, afterAll}
 use Rattle.machine.specs.Tally.{total, cameIn, accountedFor, nothing, EachTells}
@@ -45,7 +45,7 @@ use Rattle.device.specs.declared.answers.CreateAnswer.the-variants as create
 use Rattle.device.specs.declared.answers.Created.{Created}
 use Rattle.device.specs.declared.device.Device.{Device}
 use Rattle.claim.specs.Creations.{refusedCreation, CreationEnds}
-use Rattle.claim.specs.Runs.{Parses, Creates, Answered, Ran, RefusedStay, Binary64}
+use Rattle.claim.specs.Runs.{Parses, Creates, Answered, Ran, RefusedStay}
 use Rattle.claim.specs.Laws.Answers.{answersTo}
 use Rattle.claim.specs.Laws.Creation.{create-matches, create-made, create-ends, refused-device, refused-matches}
 use Rattle.claim.specs.Laws.Exist.{parses-so, creates-so, ran-so}

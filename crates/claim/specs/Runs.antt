@@ -143,15 +143,3 @@ pub data Ran : Device → Tables → List Call → List Answer → Type 1 where
 abbrev pub RefusedStay : {v : Device} {t : Tables} {cs : List Call} {rs : List Answer} → Ran v t cs rs → Type 0
 RefusedStay done = Unit {0}
 RefusedStay (next {v} {v′} {t} {t′} {c} {a} call ran) = ((k : ℕ) → a ≡ refused k → (v′ ≡ v) × (t′ ≡ t)) × RefusedStay ran
-
--- the instants of the arrivals of a list of calls are numbers of binary64
-abbrev pub Binary64Call : Call → Type 0
-Binary64Call (arriveCall now bytes route) = T (fits binary64 now)
-Binary64Call (releaseCall now) = Unit {0}
-Binary64Call (rebindCall now) = Unit {0}
-Binary64Call teardownCall = Unit {0}
-Binary64Call reportCall = Unit {0}
-
-abbrev pub Binary64 : List Call → Type 0
-Binary64 [] = Unit {0}
-Binary64 (c ∷ cs) = Binary64Call c × Binary64 cs

@@ -5,9 +5,9 @@ use Rattle.numbers.specs.Laws.NotNan.{cond-has}
 use Rattle.draws.specs.Mix.{directionSeedOf}
 use Rattle.accounts.specs.declared.answers.Outcome.the-variants as outcome
 use Rattle.options.specs.Config.{defaultDirection}
-use Rattle.options.specs.Judgement.{isSettingsOf}
+use Rattle.judgement.specs.Settings.{isSettingsOf}
 use Rattle.options.specs.declared.config.DirectionConfig.{DirectionConfig}
-use Rattle.engine.specs.Calls.{newOf}
+use Rattle.engine.specs.Calls.{newEngineOf}
 use Rattle.engine.specs.Engine.{freshOf}
 use Rattle.engine.specs.declared.answers.Changed.{Changed}
 use Rattle.engine.specs.declared.engine.ArrivalEngine.{ArrivalEngine}
@@ -21,15 +21,15 @@ use Rattle.device.specs.declared.answers.Created.{Created}
 use Rattle.device.specs.declared.device.Device.{Device}
 
 -- the default settings give the same engine whether they are judged to pass or not
-default-engine : newOf defaultDirection 0 .engine ≡ freshOf defaultDirection 0
-unfolding newOf
+default-engine : newEngineOf defaultDirection 0 .engine ≡ freshOf defaultDirection 0
+unfolding newEngineOf
 default-engine = cond-has (λ (x : Changed). x .engine ≡ freshOf defaultDirection 0) (isSettingsOf defaultDirection) refl refl
 
-pub not-created-is : (cfg : DirectionConfig) (changed : Changed) (v : Device) (k : ℕ) → cfg ≡ defaultDirection → changed ≡ newOf cfg 0 → v ≡ freshDevice (changed .engine) (fresh 1 0)
+pub not-created-is : (cfg : DirectionConfig) (changed : Changed) (v : Device) (k : ℕ) → cfg ≡ defaultDirection → changed ≡ newEngineOf cfg 0 → v ≡ freshDevice (changed .engine) (fresh 1 0)
     → (record { device = v; answer = answer.Refused k }) ≡ notCreated k
 unfolding notCreated
 not-created-is cfg changed v k ec en ev =
-    let engine = ap (λ (x : Changed). x .engine) en ∙ ap (λ (x : DirectionConfig). newOf x 0 .engine) ec ∙ default-engine in
+    let engine = ap (λ (x : Changed). x .engine) en ∙ ap (λ (x : DirectionConfig). newEngineOf x 0 .engine) ec ∙ default-engine in
     ap (λ (x : Device). record { device = x; answer = answer.Refused k }) (ev ∙ ap (λ (e : ArrivalEngine). freshDevice e (fresh 1 0)) engine)
 
 pub queued-done : (e : ArrivalEngine) (q : QueueCreated) (v : Device) → q .answer ≡ made.Created → v ≡ freshDevice e (q .queue) → (record { device = v; answer = answer.Created }) ≡ queuedOn e q
@@ -41,11 +41,11 @@ unfolding queuedBy
 queued-refused e q k x h ex = rw h ex
 
 module _ (width : ℕ) (cfg : DirectionConfig) (seed salt cap : ℕ) (t : Tables) (mixed : ℕ) (changed : Changed) (q : QueueCreated)
-    (em : mixed ≡ directionSeedOf seed salt) (ec : changed ≡ newOf cfg mixed) (eq : q ≡ queueOf width cap t) where
+    (em : mixed ≡ directionSeedOf seed salt) (ec : changed ≡ newEngineOf cfg mixed) (eq : q ≡ queueOf width cap t) where
   created : createdBy (changed .outcome) (changed .engine) q ≡ createOf width cfg seed salt cap t
   unfolding createOf
   created =
-      let engine = ec ∙ ap (λ (n : ℕ). newOf cfg n) em in
+      let engine = ec ∙ ap (λ (n : ℕ). newEngineOf cfg n) em in
       λ i. createdBy (engine i .outcome) (engine i .engine) (eq i)
 
   pub create-done : (x : Created) → changed .outcome ≡ outcome.Done → x ≡ queuedOn (changed .engine) q → x ≡ createOf width cfg seed salt cap t

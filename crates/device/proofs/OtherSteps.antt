@@ -25,8 +25,7 @@ use Rattle.admission.specs.Admitted.{tornBy as resetBy, tornOf}
 use Rattle.admission.specs.Follow.{followOf}
 use Rattle.admission.specs.Laws.Bounds.{follow-bounds}
 use Rattle.device.specs.Refusals.{callRefusal}
-use Rattle.device.specs.Others.{withEngine, notRebound, reboundBy, rebindOf, notTorn, withTorn, tornBy, teardownOf, reportedWith, reportOf}
-use Rattle.device.specs.Release.{withQueue}
+use Rattle.device.specs.Others.{withEngine, notRebound, reboundBy, rebindOf, notTorn, withQueue, withTorn, tornBy, teardownOf, reportedWith, reportOf}
 use Rattle.device.specs.declared.answers.RebindAnswer.the-variants as rebind
 use Rattle.device.specs.declared.answers.Rebound.{Rebound}
 use Rattle.device.specs.declared.answers.TeardownAnswer.the-variants as teardown

@@ -25,25 +25,28 @@ unfolding memoryOf
 room-is width cap t memory h = h
 
 -- the tests whose passing the proofs use
-record All (len counters : Bool) : Type 0 where
+record All (instant len counters : Bool) : Type 0 where
+  instant-passes : instant ≡ true
   length-passes : len ≡ true
   counters-pass : counters ≡ true
 
-all-pass : (memory instant len counters : Bool) → refusalOf memory instant len counters ≡ 0 → All len counters
+all-pass : (memory instant len counters : Bool) → refusalOf memory instant len counters ≡ 0 → All instant len counters
 unfolding refusalOf
 all-pass false instant len counters h = absurd (omega (arith, h))
 all-pass true false len counters h = absurd (omega (arith, h))
 all-pass true true false counters h = absurd (omega (arith, h))
 all-pass true true true false h = absurd (omega (arith, h))
-all-pass true true true true h = record { length-passes = refl; counters-pass = refl }
+all-pass true true true true h = record { instant-passes = refl; length-passes = refl; counters-pass = refl }
 
-pub record Passed (v : Device) (len : Bool) : Type 0 where
+pub record Passed (v : Device) (instant len : Bool) : Type 0 where
+  pub instant-passes : instant ≡ true
   pub length-passes : len ≡ true
+  pub engine : countersPass (v .engine) ≡ true
   pub stats : areCounters (statsCounters (v .engine .stats)) ≡ true
   pub accounts : areCounters (accountantCounters (v .accounts)) ≡ true
   pub torn : isCounterOf (v .torn) ≡ true
 
-pub no-refusal : (v : Device) (memory instant len : Bool) → callRefusal v memory instant len ≡ 0 → Passed v len
+pub no-refusal : (v : Device) (memory instant len : Bool) → callRefusal v memory instant len ≡ 0 → Passed v instant len
 unfolding callRefusal inRange
 no-refusal v memory instant len h =
     let all = all-pass memory instant len (inRange (v .engine) (v .accounts) (v .torn) (v .queue .«next_seq»)) h in
@@ -51,4 +54,4 @@ no-refusal v memory instant len h =
     let torn = both-true _ (isCounterOf (v .torn)) (seq .0) in
     let accounts = both-true (countersPass (v .engine)) (areCounters (accountantCounters (v .accounts))) (torn .0) in
     let stats = both-true (isCounterOf (v .engine .«rebinds_done»)) (areCounters (statsCounters (v .engine .stats))) (accounts .0) in
-    record { length-passes = all .length-passes; stats = stats .1; accounts = accounts .1; torn = torn .1 }
+    record { instant-passes = all .instant-passes; length-passes = all .length-passes; engine = accounts .0; stats = stats .1; accounts = accounts .1; torn = torn .1 }

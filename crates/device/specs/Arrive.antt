@@ -7,12 +7,11 @@ use lib.Ieee.{Float}
 use lib.ListN.{length}
 use Rattle.numbers.specs.Instant.{isInstantOf}
 use Rattle.numbers.specs.Limits.{isLengthOf}
-use Rattle.accounts.specs.declared.accountant.SendAccountant.{SendAccountant}
+use Rattle.accounts.specs.Accountant.{resetsOf}
 use Rattle.steps.specs.declared.decision.Decision.{Decision}
-use Rattle.engine.specs.Changes.{withOthers}
-use Rattle.engine.specs.Decide.{decideUncheckedOf}
+use Rattle.engine.specs.Changes.{overflowedOf}
+use Rattle.engine.specs.Decide.{decidePassedOf}
 use Rattle.engine.specs.declared.answers.Arrived.{Arrived as Decided}
-use Rattle.engine.specs.declared.engine.ArrivalEngine.{ArrivalEngine}
 use Rattle.queue.specs.Refusals.{memoryOf}
 use Rattle.queue.specs.Tables.{Tables, After, after}
 use Rattle.admission.specs.Follow.{followOf}
@@ -23,32 +22,6 @@ use Rattle.device.specs.declared.answers.ArriveAnswer.the-variants as an
 use Rattle.device.specs.declared.answers.Arrived.{Arrived}
 use Rattle.device.specs.declared.device.Device.{Device}
 
--- "the engine's overflow + 1", for each copy that overflowed
-unfoldable pub overflowsOf : ArrivalEngine → ℕ → ArrivalEngine
-overflowsOf e n =
-    record {
-      cfg = e .cfg;
-      rng = e .rng;
-      «ge_bad» = e .«ge_bad»;
-      tokens = e .tokens;
-      «last_refill_ms» = e .«last_refill_ms»;
-      «next_rebind_ms» = e .«next_rebind_ms»;
-      «rebinds_done» = e .«rebinds_done»;
-      stats = withOthers (e .stats) (e .stats .«dropped_overflow» + n) (e .stats .«nat_rebinds»);
-    }
-
--- "tcp_rst_kills + 1", for a reset
-unfoldable pub resetsOf : SendAccountant → ℕ → SendAccountant
-resetsOf a n =
-    record {
-      «sent_pkts» = a .«sent_pkts»;
-      «sent_bytes» = a .«sent_bytes»;
-      «dropped_overflow» = a .«dropped_overflow»;
-      «tcp_rst_kills» = a .«tcp_rst_kills» + n;
-      «nat_rebinds» = a .«nat_rebinds»;
-      latency = a .latency;
-    }
-
 -- "The answer says the decision and the numbers of copies entered, overflowed and torn by this call", or 26
 unfoldable pub answerOf : Decision → Admitted → ArriveAnswer
 answerOf d a = cond (eqb (a .number) 0) (answer.Decided d (a .entered) (a .overflowed) (a .torn)) (answer.Refused (a .number))
@@ -56,7 +29,7 @@ answerOf d a = cond (eqb (a .number) 0) (answer.Decided d (a .entered) (a .overf
 unfoldable pub settledOf : Device → Decided → Admitted → Arrived
 settledOf v d a =
     record {
-      device = record { engine = overflowsOf (d .engine) (a .overflowed); queue = a .queue; accounts = resetsOf (v .accounts) (a .resets); torn = v .torn + a .torn };
+      device = record { engine = overflowedOf (d .engine) (a .overflowed); queue = a .queue; accounts = resetsOf (v .accounts) (a .resets); torn = v .torn + a .torn };
       answer = answerOf (d .decision) a;
     }
 
@@ -72,5 +45,5 @@ arriveRefusal width v t now len = callRefusal v (memoryOf width (v .queue .cap) 
 unfoldable pub arriveOf : ℕ → Device → Tables → Float → List ℕ → ℕ → After Arrived
 arriveOf width v t now bytes route =
     cond (eqb (arriveRefusal width v t now (length bytes)) 0)
-    (settledIn v (decideUncheckedOf (v .engine) now (length bytes)) (followOf width (v .queue) t (decideUncheckedOf (v .engine) now (length bytes) .decision) now route bytes))
+    (settledIn v (decidePassedOf (v .engine) now (length bytes)) (followOf width (v .queue) t (decidePassedOf (v .engine) now (length bytes) .decision) now route bytes))
     (after (notArrived v (arriveRefusal width v t now (length bytes))) t)

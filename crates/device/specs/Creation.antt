@@ -7,7 +7,7 @@ use Rattle.accounts.specs.declared.answers.Outcome.{Outcome}
 use Rattle.accounts.specs.declared.answers.Outcome.the-variants as outcome
 use Rattle.options.specs.Config.{defaultDirection}
 use Rattle.options.specs.declared.config.DirectionConfig.{DirectionConfig}
-use Rattle.engine.specs.Calls.{newOf}
+use Rattle.engine.specs.Calls.{newEngineOf}
 use Rattle.engine.specs.Engine.{freshOf}
 use Rattle.engine.specs.declared.engine.ArrivalEngine.{ArrivalEngine}
 use Rattle.queue.specs.Calls.{fresh, createOf as queueOf}
@@ -41,4 +41,4 @@ createdBy outcome.Done e c = queuedOn e c
 createdBy (outcome.Refused k) e c = notCreated k
 
 unfoldable pub createOf : ℕ → DirectionConfig → ℕ → ℕ → ℕ → Tables → Created
-createOf width cfg seed salt cap t = createdBy (newOf cfg (directionSeedOf seed salt) .outcome) (newOf cfg (directionSeedOf seed salt) .engine) (queueOf width cap t)
+createOf width cfg seed salt cap t = createdBy (newEngineOf cfg (directionSeedOf seed salt) .outcome) (newEngineOf cfg (directionSeedOf seed salt) .engine) (queueOf width cap t)

@@ -47,13 +47,16 @@ rebindOf v now =
 abbrev pub notTorn : Device → ℕ → TornDown
 notTorn v k = record { device = v; answer = teardown.Refused k }
 
+abbrev pub withQueue : Device → ImpairQueue → Device
+withQueue v q = record { engine = v .engine; queue = q; accounts = v .accounts; torn = v .torn }
+
 -- the device with this queue, and so many copies more torn
 abbrev pub withTorn : Device → ImpairQueue → ℕ → Device
 withTorn v q n = record { engine = v .engine; queue = q; accounts = v .accounts; torn = v .torn + n }
 
 unfoldable pub tornBy : DrainAnswer → Device → ImpairQueue → TornDown
 tornBy (drain.Drained n) v q = record { device = withTorn v q n; answer = teardown.Torn n }
-tornBy (drain.Refused k) v q = notTorn (record { engine = v .engine; queue = q; accounts = v .accounts; torn = v .torn }) refusedKeeping
+tornBy (drain.Refused k) v q = notTorn (withQueue v q) refusedKeeping
 
 unfoldable pub teardownOf : Device → TornDown
 teardownOf v =

@@ -20,36 +20,41 @@ use Rattle.queue.specs.declared.queue.ImpairQueue.{ImpairQueue}
 use Rattle.device.specs.Refusals.{callRefusal}
 use Rattle.device.specs.declared.answers.Released.{Released}
 use Rattle.device.specs.declared.device.Device.{Device}
+use Rattle.device.specs.declared.release.Sending.{Sending}
 
 abbrev pub notReleased : Device → ReleaseAnswer → Released
 notReleased v a = record { device = v; answer = a }
 
-abbrev pub withQueue : Device → ImpairQueue → Device
-withQueue v q = record { engine = v .engine; queue = q; accounts = v .accounts; torn = v .torn }
+-- what a release leaves of queue and accounts, and its answer
+abbrev pub sending : ImpairQueue → SendAccountant → ReleaseAnswer → Sending
+sending q a x = record { queue = q; accounts = a; answer = x }
 
-abbrev pub withAccounts : Device → SendAccountant → Device
-withAccounts v a = record { engine = v .engine; queue = v .queue; accounts = a; torn = v .torn }
+-- the answer once the accounts have answered; a length that they refuse was altered: 26
+unfoldable pub toldOf : Outcome → Queued → ReleaseAnswer
+toldOf outcome.Done c = answer.Released c
+toldOf (outcome.Refused k) c = answer.Refused refusedKeeping
 
--- a length that the accounts refuse was altered: 26
-unfoldable pub accountedBy : Outcome → Device → Queued → Released
-accountedBy outcome.Done v c = record { device = v; answer = answer.Released c }
-accountedBy (outcome.Refused k) v c = notReleased v (answer.Refused refusedKeeping)
+-- the copy is accounted with its latency
+unfoldable pub accountedOf : ImpairQueue → SendAccountant → Queued → Float → Sending
+accountedOf q a c now =
+    let s = onSendOf a (c .length) (sub binary64 now (c .«arrival_ms»)) in
+    sending q (s .accountant) (toldOf (s .answer) c)
 
-unfoldable pub accountedOf : Device → Queued → Float → Released
-accountedOf v c now =
-    let s = onSendOf (v .accounts) (c .length) (sub binary64 now (c .«arrival_ms»)) in
-    accountedBy (s .answer) (withAccounts v (s .accountant)) c
+unfoldable pub sendingBy : ReleaseAnswer → ImpairQueue → SendAccountant → Float → Sending
+sendingBy (answer.Released c) q a now = accountedOf q a c now
+sendingBy answer.NoneDue q a now = sending q a answer.NoneDue
+sendingBy (answer.Refused k) q a now = sending q a (answer.Refused refusedKeeping)
 
-unfoldable pub sentBy : ReleaseAnswer → Device → Float → Released
-sentBy (answer.Released c) v now = accountedOf v c now
-sentBy answer.NoneDue v now = notReleased v answer.NoneDue
-sentBy (answer.Refused k) v now = notReleased v (answer.Refused refusedKeeping)
+-- what is left after the queue has answered
+abbrev pub sendingOf : Left → SendAccountant → Float → Sending
+sendingOf l a now = sendingBy (l .answer) (l .queue) a now
 
-abbrev pub sentOf : Device → Left → Float → Released
-sentOf v l now = sentBy (l .answer) (withQueue v (l .queue)) now
+-- the device with these parts, and the answer
+abbrev pub sentWith : Device → Sending → Released
+sentWith v x = record { device = record { engine = v .engine; queue = x .queue; accounts = x .accounts; torn = v .torn }; answer = x .answer }
 
 abbrev pub sentIn : Device → After Left → Float → After Released
-sentIn v l now = after (sentOf v (l .gives) now) (l .memory)
+sentIn v l now = after (sentWith v (sendingOf (l .gives) (v .accounts) now)) (l .memory)
 
 abbrev pub releaseRefusal : ℕ → Device → Tables → Float → ℕ
 releaseRefusal width v t now = callRefusal v (memoryOf width (v .queue .cap) t) (isInstantOf now) true

@@ -3,8 +3,9 @@ ghost use mathlib.Core.Path.{_≡_};
 ghost use Prim.Native.Nat.{_+_, _<_, _^_};
 ghost use Rattle.queue.specs.Refusals.{slotWidth};
 ghost use Rattle.queue.specs.Tables.{tables, after};
-ghost use Rattle.engine.specs.Changes.{withOthers};
-ghost use Rattle.device.specs.Arrive.{overflowsOf, resetsOf, answerOf, settledOf, notArrived, arriveOf};
+ghost use Rattle.accounts.specs.Accountant.{resetsOf};
+ghost use Rattle.engine.specs.Changes.{withOthers, overflowedOf};
+ghost use Rattle.device.specs.Arrive.{answerOf, settledOf, notArrived, arriveOf};
 ghost use Rattle.device.specs.Parts.{movingOf, movedOf, decidedWith};
 use crate::answers::ArriveAnswer;
 use crate::answers::Arrived;
@@ -14,6 +15,8 @@ use accounts::SendAccountant;
 use admission::Admitted;
 use draws::Rng;
 use engine::ArrivalEngine;
+use engine::DecideAnswer;
+use numbers::REFUSED_KEEPING;
 use steps::Decision;
 
 // An arrival that is refused.
@@ -37,13 +40,11 @@ pub(crate) struct Moving {
 }
 
 // What a decided arrival moved.
-fn moving_of(decided: engine::Arrived) -> Moving
-    ensures { λ r. ⌜ r ≡ movingOf decided ⌝ }
+fn moving_of(engine: ArrivalEngine, decision: Decision) -> Moving
+    ensures { λ r. ⌜ r ≡ movingOf (record { engine = engine; decision = decision }) ⌝ }
 {
-    let engine = decided.engine;
     let rng = engine.rng;
     let stats = engine.stats;
-    let decision = decided.decision;
     Moving {
         rng,
         ge_bad: engine.ge_bad,
@@ -87,7 +88,7 @@ fn overflows(s: DirectionStats, copies: u64) -> DirectionStats
 // The engine with what an arrival moved, and so many copies more that overflowed.
 fn moved(mut engine: ArrivalEngine, moving: Moving, overflowed: u64) -> ArrivalEngine
     requires { ⌜ moving .stats .«dropped_overflow» + overflowed < 2 ^ 64 ⌝ }
-    ensures { λ r. ⌜ r ≡ overflowsOf (movedOf engine moving) overflowed ⌝ }
+    ensures { λ r. ⌜ r ≡ overflowedOf (movedOf engine moving) overflowed ⌝ }
 {
     let rng = moving.rng;
     let stats = moving.stats;
@@ -185,8 +186,13 @@ impl Device {
         }
         let engine = self.engine;
         let decided = engine.decide_unchecked(now_ms, bytes.len());
-        let decision = decided.decision;
-        let moving = moving_of(decided);
+        let after = decided.engine;
+        let answer = decided.answer;
+        // What the engine refuses was refused above.
+        let DecideAnswer::Decided(decision) = answer else {
+            return not_arrived(self, REFUSED_KEEPING);
+        };
+        let moving = moving_of(after, decision);
         // The device moves on between the two halves of the way: over the whole way at once the compiler would not see that its lists stay the same.
         let device = self;
         let admitted = admission::follow(

@@ -3,8 +3,7 @@ ghost use mathlib.Core.Path.{_≡_};
 ghost use Rattle.queue.specs.Refusals.{slotWidth};
 ghost use Rattle.queue.specs.Tables.{tables, after};
 ghost use Rattle.queue.specs.Calls.{payloadOf};
-ghost use Rattle.device.specs.Release.{releaseOf};
-ghost use Rattle.device.specs.Parts.{leaving, toldBy, leavingAccounted, leavingOf};
+ghost use Rattle.device.specs.Release.{sending, toldOf, accountedOf, sendingOf, releaseOf};
 use crate::answers::Released;
 use crate::device::Device;
 use accounts::Outcome;
@@ -15,7 +14,7 @@ use queue::Queued;
 use queue::ReleaseAnswer;
 
 // What a release leaves of the queue and the accounts, and its answer. The settings stay out, so that their lists are not copied with each release.
-pub(crate) struct Leaving {
+pub(crate) struct Sending {
     pub queue: ImpairQueue,
     pub accounts: SendAccountant,
     pub answer: ReleaseAnswer,
@@ -23,7 +22,7 @@ pub(crate) struct Leaving {
 
 // The answer once the accounts have answered; a length that 22 refuses was altered.
 fn told(outcome: Outcome, copy: Queued) -> ReleaseAnswer
-    ensures { λ r. ⌜ r ≡ toldBy outcome copy ⌝ }
+    ensures { λ r. ⌜ r ≡ toldOf outcome copy ⌝ }
 {
     match outcome {
         Outcome::Done => ReleaseAnswer::Released(copy),
@@ -32,13 +31,13 @@ fn told(outcome: Outcome, copy: Queued) -> ReleaseAnswer
 }
 
 // The copy is accounted with its latency.
-fn accounted(queue: ImpairQueue, accounts: SendAccountant, copy: Queued, now_ms: f64) -> Leaving
-    ensures { λ r. ⌜ r ≡ leavingAccounted queue accounts copy «now_ms» ⌝ }
+fn accounted(queue: ImpairQueue, accounts: SendAccountant, copy: Queued, now_ms: f64) -> Sending
+    ensures { λ r. ⌜ r ≡ accountedOf queue accounts copy «now_ms» ⌝ }
 {
     let sent = accounts.on_send(copy.length, now_ms - copy.arrival_ms);
     let after = sent.accountant;
     let outcome = sent.answer;
-    Leaving {
+    Sending {
         queue,
         accounts: after,
         answer: told(outcome, copy),
@@ -46,10 +45,10 @@ fn accounted(queue: ImpairQueue, accounts: SendAccountant, copy: Queued, now_ms:
 }
 
 // A release that hands out no copy.
-fn not_sent(queue: ImpairQueue, accounts: SendAccountant, answer: ReleaseAnswer) -> Leaving
-    ensures { λ r. ⌜ r ≡ leaving queue accounts answer ⌝ }
+fn not_sent(queue: ImpairQueue, accounts: SendAccountant, answer: ReleaseAnswer) -> Sending
+    ensures { λ r. ⌜ r ≡ sending queue accounts answer ⌝ }
 {
-    Leaving {
+    Sending {
         queue,
         accounts,
         answer,
@@ -57,8 +56,8 @@ fn not_sent(queue: ImpairQueue, accounts: SendAccountant, answer: ReleaseAnswer)
 }
 
 // What is left after the queue has answered.
-fn sent(released: queue::Released, accounts: SendAccountant, now_ms: f64) -> Leaving
-    ensures { λ r. ⌜ r ≡ leavingOf released accounts «now_ms» ⌝ }
+fn sending_of(released: queue::Released, accounts: SendAccountant, now_ms: f64) -> Sending
+    ensures { λ r. ⌜ r ≡ sendingOf released accounts «now_ms» ⌝ }
 {
     let queue = released.queue;
     let answer = released.answer;
@@ -129,7 +128,7 @@ impl Device {
             now_ms,
         );
         let accounts = self.accounts;
-        let left = sent(released, accounts, now_ms);
+        let left = sending_of(released, accounts, now_ms);
         let after = left.queue;
         let sends = left.accounts;
         let answer = left.answer;

@@ -1,5 +1,5 @@
 -- xorshift64* (Vigna, "An experimental exploration of Marsaglia's xorshift generators, scrambled"), with the shifts 12, 25, 27 and the
--- multiplier 0x2545F4914F6CDD1D, and the draws of document 01 that are made of its outputs.
+-- multiplier 0x2545F4914F6CDD1D, and document 01's draws, which are made of its outputs.
 use mathlib.Core.Bool.{false, cond}
 use Prim.Native.Nat.{ℕ, zero, suc}
 use lib.Dec.{eqb}
@@ -12,9 +12,9 @@ use Rattle.draws.specs.declared.rng.DrawU64.{DrawU64}
 use Rattle.draws.specs.declared.rng.DrawF64.{DrawF64}
 use Rattle.draws.specs.Shifts.{xorShiftRight, xorShiftLeft, topBits, goldenGamma}
 
--- "Seed 0 becomes 0x9E3779B97F4A7C15."
-unfoldable pub newOf : ℕ → Rng
-newOf seed = record { state = cond (eqb seed 0) goldenGamma seed }
+-- a seed is the state, but for 0, which would stay 0 (document 01, "Draws")
+unfoldable pub newRngOf : ℕ → Rng
+newRngOf seed = record { state = cond (eqb seed 0) goldenGamma seed }
 
 -- the next state
 unfoldable pub stepOf : ℕ → ℕ
@@ -36,6 +36,10 @@ powerBelow (suc k) = fin false 1 (negsuc k)
 unfoldable pub fractionOf : ℕ → ℕ → Float
 fractionOf w x = mul binary64 (whole (topBits w x)) (powerBelow w)
 
--- "A draw is the top 53 bits of the output times 2^-53, exactly."
+-- how many bits of an output a draw has
+abbrev pub drawWidth : ℕ
+drawWidth = 53
+
+-- a draw from 0 up to 1 (document 01, "Draws")
 unfoldable pub nextF64Of : Rng → DrawF64
-nextF64Of g = record { rng = record { state = stepOf (g .state) }; value = fractionOf 53 (outputOf (g .state)) }
+nextF64Of g = record { rng = record { state = stepOf (g .state) }; value = fractionOf drawWidth (outputOf (g .state)) }

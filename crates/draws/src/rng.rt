@@ -1,8 +1,11 @@
 ghost use mathlib.Core.Path.{_≡_};
-ghost use Rattle.draws.specs.Rng.{newOf, nextU64Of, nextF64Of};
+ghost use Rattle.draws.specs.Rng.{newRngOf, nextU64Of, nextF64Of};
 
 // The increment of SplitMix64, which also stands in for seed 0.
 pub const GOLDEN_GAMMA: u64 = 0x9E37_79B9_7F4A_7C15;
+
+// How many draws from 0 up to 1 there are: 2^53.
+const DRAWS: f64 = 9007199254740992.0;
 
 // The generator xorshift64*.
 pub struct Rng {
@@ -24,7 +27,7 @@ pub struct DrawF64 {
 impl Rng {
     // The generator for a seed. Seed 0 is replaced, since a state of 0 would stay 0.
     pub fn new(seed: u64) -> Rng
-        ensures { λ r. ⌜ r ≡ newOf seed ⌝ }
+        ensures { λ r. ⌜ r ≡ newRngOf seed ⌝ }
     {
         if seed == 0 {
             Rng {
@@ -47,7 +50,7 @@ impl Rng {
         DrawU64 { rng: self, value }
     }
 
-    // The top 53 bits of the next output times 2^-53, exactly.
+    // A draw: 53 bits of the next output, scaled without rounding.
     pub fn next_f64(mut self) -> DrawF64
         ensures { λ r. ⌜ r ≡ nextF64Of self ⌝ }
     {
@@ -56,7 +59,7 @@ impl Rng {
         let top = drawn.value >> 11;
         DrawF64 {
             rng,
-            value: top as f64 * (1.0 / 9007199254740992.0),
+            value: top as f64 * (1.0 / DRAWS),
         }
     }
 }

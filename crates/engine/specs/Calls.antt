@@ -1,6 +1,6 @@
 -- What each call gives for any engine and arguments: the engine that comes back, and beside it the answer or the number of the refusal. A refused call
 -- hands back the engine that it was given; a refused creation gives the engine of the default settings with the generator's seed 0.
-use mathlib.Core.Bool.{true, false, cond, _||_}
+use mathlib.Core.Bool.{Bool, true, false, cond, _||_}
 use Prim.Native.Nat.{ℕ}
 use lib.Dec.{eqb}
 use lib.Ieee.{Float, le}
@@ -8,11 +8,11 @@ use lib.ListN.{take}
 use Rattle.numbers.specs.Refusals.{refusedSettings}
 use Rattle.accounts.specs.declared.answers.Outcome.the-variants as outcome
 use Rattle.options.specs.Config.{defaultDirection}
-use Rattle.options.specs.Judgement.{isSettingsOf}
+use Rattle.judgement.specs.Settings.{isSettingsOf}
 use Rattle.options.specs.declared.config.DirectionConfig.{DirectionConfig}
 use Rattle.steps.specs.Gate.{killNowOf, anyWindowOf}
 use Rattle.engine.specs.Changes.{reboundOf, overflowedOf}
-use Rattle.engine.specs.Decide.{decideUncheckedOf}
+use Rattle.engine.specs.Decide.{decidePassedOf}
 use Rattle.engine.specs.Engine.{freshOf}
 use Rattle.engine.specs.Refusals.{arrivalRefusal, instantRefusal, plainRefusal}
 use Rattle.engine.specs.declared.answers.BoolAnswer.{BoolAnswer}
@@ -23,16 +23,24 @@ use Rattle.engine.specs.declared.answers.Decided.{Decided}
 use Rattle.engine.specs.declared.answers.Rebound.{Rebound}
 use Rattle.engine.specs.declared.engine.ArrivalEngine.{ArrivalEngine}
 
-unfoldable pub newOf : DirectionConfig → ℕ → Changed
-newOf cfg seed =
+unfoldable pub newEngineOf : DirectionConfig → ℕ → Changed
+newEngineOf cfg seed =
     cond (isSettingsOf cfg) (record { engine = freshOf cfg seed; outcome = outcome.Done })
     (record { engine = freshOf defaultDirection 0; outcome = outcome.Refused refusedSettings })
 
-unfoldable pub decideOf : ArrivalEngine → Float → ℕ → Decided
-decideOf e now len =
-    cond (eqb (arrivalRefusal e now len) 0)
-    (record { engine = decideUncheckedOf e now len .engine; answer = answer.Decided (decideUncheckedOf e now len .decision) })
-    (record { engine = e; answer = answer.Refused (arrivalRefusal e now len) })
+-- an arrival at an engine whose settings pass 29 or not
+unfoldable pub decideGivenOf : Bool → ArrivalEngine → Float → ℕ → Decided
+decideGivenOf settings e now len =
+    cond (eqb (arrivalRefusal settings e now len) 0)
+    (record { engine = decidePassedOf e now len .engine; answer = answer.Decided (decidePassedOf e now len .decision) })
+    (record { engine = e; answer = answer.Refused (arrivalRefusal settings e now len) })
+
+abbrev pub decideOf : ArrivalEngine → Float → ℕ → Decided
+decideOf e now len = decideGivenOf (isSettingsOf (e .cfg)) e now len
+
+-- the same without 29, for an engine whose settings were judged when it was made
+abbrev pub decideUncheckedOf : ArrivalEngine → Float → ℕ → Decided
+decideUncheckedOf e now len = decideGivenOf true e now len
 
 unfoldable pub shouldRebindNowOf : ArrivalEngine → Float → Rebound
 shouldRebindNowOf e now =
@@ -55,5 +63,5 @@ holdNowOf e now =
 
 unfoldable pub statsIncOverflowOf : ArrivalEngine → Changed
 statsIncOverflowOf e =
-    cond (eqb (plainRefusal e) 0) (record { engine = overflowedOf e; outcome = outcome.Done })
+    cond (eqb (plainRefusal e) 0) (record { engine = overflowedOf e 1; outcome = outcome.Done })
     (record { engine = e; outcome = outcome.Refused (plainRefusal e) })

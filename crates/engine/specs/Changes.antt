@@ -1,4 +1,4 @@
--- The engine with one counter more, beside arrivals.
+-- What changes an engine beside arrivals: a rebind, and copies that a full queue turned away.
 use Prim.Native.Nat.{ℕ, _+_}
 use lib.Ieee.{binary64, add}
 use Rattle.numbers.specs.Whole.{whole}
@@ -44,9 +44,9 @@ reboundOf e =
       stats = withOthers (e .stats) (e .stats .«dropped_overflow») (e .«rebinds_done» + 1);
     }
 
--- one copy more that a full queue turned away
-unfoldable pub overflowedOf : ArrivalEngine → ArrivalEngine
-overflowedOf e =
+-- the engine with this number of copies that a full queue turned away
+unfoldable pub withOverflow : ArrivalEngine → ℕ → ArrivalEngine
+withOverflow e n =
     record {
       cfg = e .cfg;
       rng = e .rng;
@@ -55,5 +55,9 @@ overflowedOf e =
       «last_refill_ms» = e .«last_refill_ms»;
       «next_rebind_ms» = e .«next_rebind_ms»;
       «rebinds_done» = e .«rebinds_done»;
-      stats = withOthers (e .stats) (e .stats .«dropped_overflow» + 1) (e .stats .«nat_rebinds»);
+      stats = withOthers (e .stats) n (e .stats .«nat_rebinds»);
     }
+
+-- n copies more
+abbrev pub overflowedOf : ArrivalEngine → ℕ → ArrivalEngine
+overflowedOf e n = withOverflow e (e .stats .«dropped_overflow» + n)

@@ -1,4 +1,4 @@
--- "1. Count packet and bytes", and how each decision is counted; "hold drops as blackout", and a reset is counted elsewhere.
+-- Step 1 of an arrival (document 01, "Arrival engine"), and how each decision is counted: a kill that holds as a blackout, and a reset not here.
 use mathlib.Core.Bool.{Bool, cond}
 use Prim.Native.Nat.{ℕ, _+_}
 use Rattle.accounts.specs.declared.stats.DirectionStats.{DirectionStats}

@@ -23,7 +23,7 @@ afterOf e len a =
       stats = countedOf (e .stats) len a;
     }
 
-unfoldable pub decideUncheckedOf : ArrivalEngine → Float → ℕ → Arrived
-decideUncheckedOf e now len =
+unfoldable pub decidePassedOf : ArrivalEngine → Float → ℕ → Arrived
+decidePassedOf e now len =
     let a = arrivedOf (gateAtOf (e .cfg) now) (scalarsOf (e .cfg)) (stateOf e) now len in
     record { engine = afterOf e len a; decision = a .decision }

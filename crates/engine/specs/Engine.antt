@@ -5,7 +5,7 @@ use lib.Dec.{ltb}
 use lib.Ieee.{Float, inf}
 use lib.ListN.{take}
 use Rattle.numbers.specs.Whole.{whole}
-use Rattle.draws.specs.Rng.{newOf as rngOf}
+use Rattle.draws.specs.Rng.{newRngOf}
 use Rattle.accounts.specs.Stats.{noStats}
 use Rattle.options.specs.declared.config.DirectionConfig.{DirectionConfig}
 use Rattle.steps.specs.Bucket.{bucketCapacityOf}
@@ -23,7 +23,7 @@ unfoldable pub freshOf : DirectionConfig → ℕ → ArrivalEngine
 freshOf cfg seed =
     record {
       cfg = cfg;
-      rng = rngOf seed;
+      rng = newRngOf seed;
       «ge_bad» = false;
       tokens = whole (bucketCapacityOf (cfg .«rate_bps») (cfg .«rate_burst_bytes»));
       «last_refill_ms» = whole 0;

@@ -1,7 +1,7 @@
 // How an engine starts.
 ghost use mathlib.Core.Path.{_≡_};
 ghost use Rattle.engine.specs.Engine.{freshOf, nextRebindOf};
-ghost use Rattle.engine.specs.Calls.{newOf};
+ghost use Rattle.engine.specs.Calls.{newEngineOf};
 use crate::answers::Changed;
 use crate::engine::ArrivalEngine;
 use accounts::DirectionStats;
@@ -21,7 +21,7 @@ fn next_rebind(nat_change_every_ms: u64) -> f64
     }
 }
 
-// The engine as the source starts it.
+// A full bucket, a good state and no counts.
 fn fresh(cfg: DirectionConfig, seed: u64) -> ArrivalEngine
     ensures { λ r. ⌜ r ≡ freshOf cfg seed ⌝ }
 {
@@ -46,7 +46,7 @@ fn fresh(cfg: DirectionConfig, seed: u64) -> ArrivalEngine
 impl ArrivalEngine {
     // A new engine; refused settings give that of the default settings with the generator's seed 0.
     pub fn new(cfg: DirectionConfig, seed: u64) -> Changed
-        ensures { λ r. ⌜ r ≡ newOf cfg seed ⌝ }
+        ensures { λ r. ⌜ r ≡ newEngineOf cfg seed ⌝ }
     {
         if !judgement::is_settings(cfg) {
             let default = DirectionConfig::default();

@@ -3,22 +3,23 @@ ghost use mathlib.Core.Path.{_≡_};
 ghost use mathlib.Core.Bool.{true};
 ghost use Rattle.numbers.specs.Limits.{isLengthOf};
 ghost use Rattle.accounts.specs.Counters.{areCounters, statsCounters};
-ghost use Rattle.engine.specs.Decide.{decideUncheckedOf};
-ghost use Rattle.engine.specs.Calls.{decideOf};
+ghost use Rattle.engine.specs.Decide.{decidePassedOf};
+ghost use Rattle.engine.specs.Calls.{decideGivenOf, decideOf, decideUncheckedOf};
 use crate::answers::Arrived;
 use crate::answers::DecideAnswer;
 use crate::answers::Decided;
 use crate::counts::counted;
 use crate::engine::ArrivalEngine;
+use crate::refusal::passes;
 use crate::windows::gate_at;
 use steps::ArrivalState;
 
 impl ArrivalEngine {
-    // All steps of an arrival, for a caller that has judged length and counters.
-    pub fn decide_unchecked(mut self, now_ms: f64, len: usize) -> Arrived
+    // All steps of an arrival that no refusal met.
+    fn decide_passed(mut self, now_ms: f64, len: usize) -> Arrived
         requires { ⌜ areCounters (statsCounters (self .stats)) ≡ true ⌝ }
         requires { ⌜ isLengthOf len ≡ true ⌝ }
-        ensures { λ r. ⌜ r ≡ decideUncheckedOf self «now_ms» len ⌝ }
+        ensures { λ r. ⌜ r ≡ decidePassedOf self «now_ms» len ⌝ }
     {
         let cfg = self.cfg;
         let gate = gate_at(cfg, now_ms);
@@ -47,23 +48,42 @@ impl ArrivalEngine {
         }
     }
 
-    // Drops the packet, enqueues it or resets its connection, or refuses by 29, 21, 22 or 25.
-    pub fn decide(mut self, now_ms: f64, len: usize) -> Decided
-        ensures { λ r. ⌜ r ≡ decideOf self «now_ms» len ⌝ }
+    // An arrival at an engine whose settings pass 29 or not.
+    fn decide_given(mut self, settings: bool, now_ms: f64, len: usize) -> Decided
+        ensures { λ r. ⌜ r ≡ decideGivenOf settings self «now_ms» len ⌝ }
     {
-        let k = self.judged(numbers::is_instant(now_ms), numbers::is_length(len));
+        let k = self.judged_given(
+            settings,
+            numbers::is_instant(now_ms),
+            numbers::is_length(len),
+        );
         if k != 0 {
             return Decided {
                 engine: self,
                 answer: DecideAnswer::Refused(k),
             };
         }
-        let arrived = self.decide_unchecked(now_ms, len);
+        let arrived = self.decide_passed(now_ms, len);
         let engine = arrived.engine;
         let decision = arrived.decision;
         Decided {
             engine,
             answer: DecideAnswer::Decided(decision),
         }
+    }
+
+    // Drops the packet, enqueues it or resets its connection, or refuses by 29, 21, 22 or 25.
+    pub fn decide(mut self, now_ms: f64, len: usize) -> Decided
+        ensures { λ r. ⌜ r ≡ decideOf self «now_ms» len ⌝ }
+    {
+        let cfg = self.cfg;
+        self.decide_given(passes(cfg), now_ms, len)
+    }
+
+    // The same without 29, for an engine whose settings were judged when it was made.
+    pub fn decide_unchecked(mut self, now_ms: f64, len: usize) -> Decided
+        ensures { λ r. ⌜ r ≡ decideUncheckedOf self «now_ms» len ⌝ }
+    {
+        self.decide_given(true, now_ms, len)
     }
 }

@@ -8,7 +8,7 @@ use lib.Dec.{eqb}
 use lib.Ieee.{Float, le, isNan}
 use Rattle.held.specs.Order.{beforeOf}
 
--- "A held copy has due, seq, arrival, route (u64), copy id (u32), length and bytes."
+-- a held copy (document 01, Records); its route is a u64, its copy id a u32
 pub record Copy : Type 0 where
   pub due : Float
   pub seq : ℕ
@@ -57,6 +57,6 @@ unfoldable pub leastIn : List Copy → Leaving
 leastIn [] = noCopy
 leastIn (c ∷ l) = oneCopy (least c l)
 
--- "the least (due, seq) with due ≤ now leaves"
+-- the copy that a release lets go (document 01, the plain machine): of those that are due the least
 unfoldable pub leaving : Float → List Copy → Leaving
 leaving now l = leastIn (dueBy now l)

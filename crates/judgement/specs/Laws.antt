@@ -1,2 +1,3 @@
--- Parts (the judgement of the settings, part by part).
-pub mod Parts
+-- In order: Limits (rate, MTU and burst), Parsed (whatever the text, the settings of the answer pass).
+pub mod Limits
+pub mod Parsed

@@ -1,4 +1,5 @@
--- Scalars: the settings of a direction without its lists, and refusal 29's judgement of them. The judgement of all settings is `isSettingsOf` of options.
--- Laws: that it consists of the judgements of the scalars and of the two lists.
+-- Scalars: the settings of a direction without its lists, and what refusal 29 asks of them. Settings: which settings it lets through. Laws: that they pass
+-- which a text gives.
 pub mod Scalars
+pub mod Settings
 pub mod Laws

@@ -1,9 +1,10 @@
 -- The settings of a direction without its lists, and what refusal 29 asks of them.
-use mathlib.Core.Bool.{Bool, _&&_}
+use mathlib.Core.Bool.{Bool, true, _&&_}
 use Rattle.values.specs.Whole.{isBounded}
-use Rattle.settings.specs.Judgement.{isProbability, isTime, isGe}
-use Rattle.options.specs.Judgement.{isRate, isMtu}
+use Rattle.settings.specs.Judgement.{isProbability, isTime, isPositive, isGe}
 use Rattle.options.specs.declared.config.DirectionConfig.{DirectionConfig}
+use Rattle.options.specs.declared.config.MtuOption.{MtuOption}
+use Rattle.options.specs.declared.config.RateOption.{RateOption}
 use Rattle.judgement.specs.declared.scalars.DirectionScalars.{DirectionScalars}
 
 unfoldable pub scalarsOf : DirectionConfig → DirectionScalars
@@ -21,6 +22,15 @@ scalarsOf cfg =
       mtu = cfg .mtu;
       «nat_change_every_ms» = cfg .«nat_change_every_ms»;
     }
+
+-- a rate or an MTU of 0 is none
+abbrev pub isRate : RateOption → Bool
+isRate RateOption.Absent = true
+isRate (RateOption.Present n) = isPositive n
+
+abbrev pub isMtu : MtuOption → Bool
+isMtu MtuOption.Absent = true
+isMtu (MtuOption.Present n) = isPositive n
 
 unfoldable pub areScalarsOf : DirectionScalars → Bool
 areScalarsOf s =

@@ -1,5 +1,5 @@
 ghost use mathlib.Core.Path.{_≡_};
-ghost use Rattle.options.specs.Judgement.{isSettingsOf};
+ghost use Rattle.judgement.specs.Settings.{isSettingsOf};
 use crate::lists::are_blackouts;
 use crate::lists::are_tcp_kills;
 use crate::scalars::are_scalars;

@@ -1,15 +1,17 @@
-// The lists of a direction: at most 128 entries are counted, and only these are judged.
+// The lists of a direction: entries that are not counted may be anything.
 ghost use mathlib.Core.Path.{_≡_};
 ghost use Prim.Native.Nat.{_≤_};
 ghost use lib.ListN.{take};
+ghost use Rattle.numbers.specs.Limits.{maxEntries};
 ghost use Rattle.settings.specs.Judgement.{isWindow, isKill, allOf, isList};
 use crate::setting::is_window;
+use numbers::MAX_ENTRIES;
 use options::DirectionConfig;
 use settings::TcpKill;
 use settings::Window;
 
-fn are_windows(windows: [Window; 128], count: usize) -> bool
-    requires { ⌜ count ≤ 128 ⌝ }
+fn are_windows(windows: [Window; MAX_ENTRIES], count: usize) -> bool
+    requires { ⌜ count ≤ maxEntries ⌝ }
     ensures { λ r. ⌜ r ≡ allOf isWindow (take count windows) ⌝ }
 {
     let mut i: usize = 0;
@@ -23,8 +25,8 @@ fn are_windows(windows: [Window; 128], count: usize) -> bool
     true
 }
 
-fn are_kills(kills: [TcpKill; 128], count: usize) -> bool
-    requires { ⌜ count ≤ 128 ⌝ }
+fn are_kills(kills: [TcpKill; MAX_ENTRIES], count: usize) -> bool
+    requires { ⌜ count ≤ maxEntries ⌝ }
     ensures { λ r. ⌜ r ≡ allOf isKill (take count kills) ⌝ }
 {
     let mut i: usize = 0;
@@ -44,7 +46,7 @@ pub fn are_blackouts(cfg: DirectionConfig) -> bool
     ensures { λ r. ⌜ r ≡ isList isWindow (cfg .blackouts) (cfg .«blackout_count») ⌝ }
 {
     let count = cfg.blackout_count;
-    if 128 < count {
+    if MAX_ENTRIES < count {
         return false;
     }
     if count == 0 {
@@ -58,7 +60,7 @@ pub fn are_tcp_kills(cfg: DirectionConfig) -> bool
     ensures { λ r. ⌜ r ≡ isList isKill (cfg .«tcp_kills») (cfg .«tcp_kill_count») ⌝ }
 {
     let count = cfg.tcp_kill_count;
-    if 128 < count {
+    if MAX_ENTRIES < count {
         return false;
     }
     if count == 0 {

@@ -2,7 +2,8 @@
 ghost use mathlib.Core.Path.{_≡_};
 ghost use Rattle.values.specs.Whole.{isBounded};
 ghost use Rattle.settings.specs.Judgement.{isProbability, isTime, isPositive, isGe, isWindow};
-ghost use Rattle.options.specs.Judgement.{isRate, isMtu};
+ghost use Rattle.judgement.specs.Scalars.{isRate, isMtu};
+use numbers::MAX_EXACT;
 use options::MtuOption;
 use options::RateOption;
 use settings::GeOption;
@@ -26,7 +27,7 @@ pub(crate) fn is_time(x: f64) -> bool
 pub(crate) fn is_bounded(n: u64) -> bool
     ensures { λ r. ⌜ r ≡ isBounded n ⌝ }
 {
-    n <= 9007199254740992
+    n <= MAX_EXACT
 }
 
 fn is_positive(n: u64) -> bool

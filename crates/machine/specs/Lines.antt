@@ -2,65 +2,49 @@
 use mathlib.Core.Path.{_≡_, refl}
 use mathlib.Core.Bool.{true}
 use mathlib.Core.List.{List, [], _∷_}
-use lib.ListN.{length, replicate}
+use lib.ListN.{length}
 use lib.Ieee.{add, sub, mul, div, neg, lt, le, isNan, ofInt}
+use Rattle.numbers.specs.Credit.{refilledOf, waitOf}
 use Rattle.numbers.specs.Extremes.{chosenOf}
 use Rattle.numbers.specs.Instant.{isInstantOf}
 use Rattle.numbers.specs.Limits.{isLengthOf, isCounterOf}
 use Rattle.numbers.specs.Whole.{whole}
 use Rattle.draws.specs.Lines.{DrawLines, draw-lines}
 use Rattle.draws.specs.Mix.{mixOf, mix64Of}
-use Rattle.draws.specs.Rng.{newOf as rngOf, stepOf, outputOf, fractionOf, nextF64Of}
+use Rattle.draws.specs.Rng.{newRngOf, stepOf, outputOf, fractionOf, nextF64Of}
 use Rattle.accounts.specs.Accountant.{noSends}
 use Rattle.accounts.specs.Counters.{accountantCounters, statsCounters}
 use Rattle.accounts.specs.Latency.{noLatencies}
 use Rattle.accounts.specs.Lines.{AccountLines, account-lines}
 use Rattle.accounts.specs.Stats.{noStats, latenciesOf}
-use Rattle.settings.specs.Windows.{noWindow, noKill}
-use Rattle.settings.specs.declared.ge.GeOption.{GeOption}
+use Rattle.options.specs.Config.{directionWith}
+use Rattle.options.specs.Directions.{defaultBurstOf}
 use Rattle.options.specs.Lines.{OptionLines, option-lines}
 use Rattle.options.specs.declared.config.DirectionConfig.{DirectionConfig}
 use Rattle.options.specs.declared.config.MtuOption.{MtuOption}
 use Rattle.options.specs.declared.config.RateOption.{RateOption}
 use Rattle.judgement.specs.Scalars.{scalarsOf}
-use Rattle.steps.specs.Arrival.{stoppedOf, scheduledOf, mtuOf, geOf, passedOf, arrivedOf}
-use Rattle.steps.specs.Bucket.{rateCapacityOf, bucketCapacityOf, refilledOf, chargedOf, lastRefillOf, isDeferredOf}
-use Rattle.steps.specs.Burst.{burstOf}
+use Rattle.steps.specs.Arrival.{stoppedOf, scheduledOf, fromMtu, fromGe, passedOf, arrivedOf}
+use Rattle.steps.specs.Bucket.{rateCapacityOf, bucketCapacityOf, chargedOf, lastRefillOf, isDeferredOf}
+use Rattle.steps.specs.Burst.{burstLossOf}
 use Rattle.steps.specs.Chance.{chanceOf}
 use Rattle.steps.specs.Due.{jitteredOf, reorderedOf, waitedOf, owedOf}
 use Rattle.steps.specs.Gate.{killGateOf, anyWindowOf, gateOf}
 use Rattle.steps.specs.Mtu.{exceedsOf}
 use Rattle.steps.specs.declared.decision.Decision.the-variants.{Enqueue}
-use Rattle.engine.specs.Changes.{withOthers, overflowedOf}
+use Rattle.engine.specs.Changes.{withOthers, withOverflow}
 use Rattle.engine.specs.Counts.{oneIf, countsOf, countedOf}
-use Rattle.engine.specs.Decide.{afterOf, decideUncheckedOf}
+use Rattle.engine.specs.Decide.{afterOf, decidePassedOf}
 use Rattle.engine.specs.Engine.{nextRebindOf, freshOf, stateOf, gateAtOf}
 use Rattle.engine.specs.Lines.{ArrivalLines, arrival-lines}
 use Rattle.machine.specs.Machine.{Machine, hostCreation, freshMachine, inRange}
 use Rattle.machine.specs.Calls.{Call, arrive, decided}
 use Rattle.machine.specs.Steps.{unless, enterCopy, enterCopies, follow, arriveStep, step, answers, afterAll}
-use Rattle.machine.specs.Tally.{tally, total}
+use Rattle.machine.specs.Tally.{total}
 
 -- settings that do nothing but duplicate every packet
 abbrev duplicating : DirectionConfig
-duplicating =
-    record {
-      loss = whole 0;
-      ge = GeOption.Absent;
-      «delay_ms» = whole 0;
-      «jitter_ms» = whole 0;
-      «reorder_p» = whole 0;
-      «reorder_delay_ms» = whole 0;
-      «duplicate_p» = whole 1;
-      «rate_bps» = RateOption.Absent;
-      «rate_burst_bytes» = 0;
-      mtu = MtuOption.Absent;
-      blackouts = replicate 128 noWindow;
-      «blackout_count» = 0;
-      «nat_change_every_ms» = 0;
-      «tcp_kills» = replicate 128 noKill;
-      «tcp_kill_count» = 0;
-    }
+duplicating = directionWith (whole 0) (whole 1) RateOption.Absent MtuOption.Absent
 
 -- a machine of capacity 1 with these settings, seed 1 and salt 0, and one arrival of three bytes at 0 with the route 7
 abbrev single : Machine
@@ -73,15 +57,15 @@ one = arrive (whole 0) (1 ∷ 2 ∷ 3 ∷ []) 7 ∷ []
 pub record OverflowLines : Type 0 where
   pub answered : answers single one ≡ (decided (Enqueue (whole 0) true) 1 1 0 ∷ [])
   -- received 1, duplicates 1, overflow 1, and nothing else is counted
-  pub counted : total (answers single one) ≡ tally 1 0 0 0 0 0 1 1 0 0
+  pub counted : total (answers single one) ≡ record { received = 1; random = 0; ge = 0; mtu = 0; blackout = 0; reset = 0; duplicates = 1; overflow = 1; released = 0; torn = 0 }
   pub held : length (afterAll single one .held) ≡ 1
 
 overflow-lines : OverflowLines
-unfolding answers afterAll step arriveStep unless follow enterCopies enterCopy total inRange freshMachine freshOf nextRebindOf rngOf noStats noSends noLatencies
-    isInstantOf isLengthOf isCounterOf statsCounters latenciesOf accountantCounters mixOf mix64Of overflowedOf withOthers
-    decideUncheckedOf afterOf countedOf countsOf oneIf scalarsOf stateOf gateAtOf gateOf killGateOf anyWindowOf
-    arrivedOf passedOf geOf mtuOf scheduledOf stoppedOf chanceOf burstOf exceedsOf chargedOf refilledOf bucketCapacityOf rateCapacityOf lastRefillOf
-    isDeferredOf jitteredOf reorderedOf owedOf waitedOf
+unfolding answers afterAll step arriveStep unless follow enterCopies enterCopy total inRange directionWith freshMachine freshOf nextRebindOf newRngOf noStats noSends noLatencies
+    isInstantOf isLengthOf isCounterOf statsCounters latenciesOf accountantCounters mixOf mix64Of withOverflow withOthers
+    decidePassedOf afterOf countedOf countsOf oneIf scalarsOf stateOf gateAtOf gateOf killGateOf anyWindowOf
+    arrivedOf passedOf fromGe fromMtu scheduledOf stoppedOf chanceOf burstLossOf exceedsOf chargedOf refilledOf bucketCapacityOf rateCapacityOf defaultBurstOf lastRefillOf
+    isDeferredOf jitteredOf reorderedOf owedOf waitedOf waitOf
     nextF64Of stepOf outputOf fractionOf chosenOf add sub mul div neg lt le isNan ofInt
 overflow-lines = record { answered = refl; counted = refl; held = refl }
 

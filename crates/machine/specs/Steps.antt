@@ -9,12 +9,12 @@ use lib.ListN.{length}
 use Rattle.numbers.specs.Instant.{isInstantOf}
 use Rattle.numbers.specs.Limits.{isLengthOf}
 use Rattle.numbers.specs.Refusals.{refusedInstant, refusedLength, refusedCounter}
-use Rattle.accounts.specs.Accountant.{sentOf, mergedOf}
+use Rattle.accounts.specs.Accountant.{sentOf, resetsOf, mergedOf}
 use Rattle.accounts.specs.declared.accountant.SendAccountant.{SendAccountant}
 use Rattle.steps.specs.declared.decision.Decision.{Decision}
 use Rattle.steps.specs.declared.decision.Decision.the-variants.{DropRandom, DropGe, DropMtu, DropBlackout, DropKillHold, Enqueue, KillRst}
 use Rattle.engine.specs.Changes.{overflowedOf, reboundOf}
-use Rattle.engine.specs.Decide.{decideUncheckedOf}
+use Rattle.engine.specs.Decide.{decidePassedOf}
 use Rattle.engine.specs.declared.engine.ArrivalEngine.{ArrivalEngine}
 use Rattle.held.specs.Copies.{Copy, copy, without, Leaving, noCopy, oneCopy, leaving}
 use Rattle.machine.specs.Machine.{Machine, machine, inRange}
@@ -31,9 +31,9 @@ stepTo a m = record { answer = a; then = m }
 
 -- the number of the first test that fails, or else the step
 unfoldable pub unless : Machine → Bool → Bool → Step → Step
-unless m instant length s =
+unless m instant short s =
     cond (not instant) (stepTo (refused refusedInstant) m)
-    (cond (not length) (stepTo (refused refusedLength) m)
+    (cond (not short) (stepTo (refused refusedLength) m)
     (cond (not (inRange (m .engine) (m .accounts) (m .torn) (m .nextSeq))) (stepTo (refused refusedCounter) m)
     s))
 
@@ -60,25 +60,13 @@ withCopy m due now route id bytes =
 unfoldable pub enterCopy : Float → Float → ℕ → List ℕ → ℕ → Entry → Entry
 enterCopy due now route bytes id e =
     cond (ltb (length (e .then .held)) (e .then .cap)) (entry (withCopy (e .then) due now route id bytes) (e .entered + 1) (e .overflowed))
-    (entry (withEngine (e .then) (overflowedOf (e .then .engine))) (e .entered) (e .overflowed + 1))
+    (entry (withEngine (e .then) (overflowedOf (e .then .engine) 1)) (e .entered) (e .overflowed + 1))
 
 -- "copy id 0, then id 1 if duplicated, same due"
 unfoldable pub enterCopies : Machine → Float → Bool → Float → List ℕ → ℕ → Entry
 enterCopies m due duplicated now bytes route =
     let first = enterCopy due now route bytes 0 (entry m 0 0) in
     cond duplicated (enterCopy due now route bytes 1 first) first
-
--- "tcp_rst_kills + 1"
-unfoldable pub resetOf : SendAccountant → SendAccountant
-resetOf a =
-    record {
-      «sent_pkts» = a .«sent_pkts»;
-      «sent_bytes» = a .«sent_bytes»;
-      «dropped_overflow» = a .«dropped_overflow»;
-      «tcp_rst_kills» = a .«tcp_rst_kills» + 1;
-      «nat_rebinds» = a .«nat_rebinds»;
-      latency = a .latency;
-    }
 
 -- "held copies move to torn"
 abbrev pub tear : Machine → Machine
@@ -98,11 +86,11 @@ follow m DropMtu now bytes route = stepTo (decided DropMtu 0 0 0) m
 follow m DropBlackout now bytes route = stepTo (decided DropBlackout 0 0 0) m
 follow m DropKillHold now bytes route = stepTo (decided DropKillHold 0 0 0) m
 follow m (Enqueue due duplicated) now bytes route = entersAs (Enqueue due duplicated) (enterCopies m due duplicated now bytes route)
-follow m KillRst now bytes route = stepTo (decided KillRst 0 0 (length (m .held))) (tear (withAccounts m (resetOf (m .accounts))))
+follow m KillRst now bytes route = stepTo (decided KillRst 0 0 (length (m .held))) (tear (withAccounts m (resetsOf (m .accounts) 1)))
 
 unfoldable pub arriveStep : Machine → Float → List ℕ → ℕ → Step
 arriveStep m now bytes route =
-    let d = decideUncheckedOf (m .engine) now (length bytes) in
+    let d = decidePassedOf (m .engine) now (length bytes) in
     unless m (isInstantOf now) (isLengthOf (length bytes)) (follow (withEngine m (d .engine)) (d .decision) now bytes route)
 
 -- ---- release(now)

@@ -1,4 +1,4 @@
--- Digits as document 01 reads them: "the digits as a whole number over a power of ten, one division".
+-- Digits as document 01 reads them ("Option text"): a decimal is a whole number that is divided once, by a power of ten.
 use mathlib.Core.Bool.{Bool, true, _&&_}
 use mathlib.Core.List.{List, [], _∷_}
 use Prim.Native.Nat.{ℕ, _+_, _-_, _*_, _^_}

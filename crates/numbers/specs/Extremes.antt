@@ -1,8 +1,8 @@
--- Maximum and minimum "yield the other operand where one is NaN, and of −0 and 0 the first".
+-- Maximum and minimum, with NaN and the two zeros as document 01 has them ("Arrival engine").
 use mathlib.Core.Bool.{Bool, cond}
 use lib.Ieee.{Float, isNan, lt}
 
--- the other operand where one is NaN, else the second where the test says so, else the first
+-- what is no NaN, and of two numbers the second where the test says so, else the first
 unfoldable pub chosenOf : Bool → Float → Float → Float
 chosenOf second x y = cond (isNan x) y (cond (isNan y) x (cond second y x))
 

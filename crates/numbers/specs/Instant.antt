@@ -1,4 +1,4 @@
--- Refusal 21: "instant NaN, sign bit set or above 2^53".
+-- Which floats can be an instant: refusal 21 turns away a NaN, a set sign bit and what is above 2^53.
 use mathlib.Core.Bool.{Bool, false, not, _||_}
 use lib.IntN.{pos}
 use lib.Ieee.{Float, nan, inf, fin, isNan, lt}

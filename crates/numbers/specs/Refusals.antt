@@ -1,118 +1,118 @@
--- The numbers of the refusals, as document 01 has them under "Who can cause a refusal".
+-- The numbers of the refusals, as document 01 gives them under "Who can cause a refusal".
 use Prim.Native.Nat.{ℕ}
 
--- "1 over 16,384 bytes"
+-- a text that is too long
 abbrev pub refusedTextLength : ℕ
 refusedTextLength = 1
 
--- "2 last byte of a text with bytes not zero"
+-- a text whose last byte is not zero
 abbrev pub refusedTextEnd : ℕ
 refusedTextEnd = 2
 
--- "3 a byte above 127"
+-- a byte that is not ASCII
 abbrev pub refusedByte : ℕ
 refusedByte = 3
 
--- "4 argument not starting `--`"
+-- an argument without two dashes in front
 abbrev pub refusedArgument : ℕ
 refusedArgument = 4
 
--- "5 value lacking"
+-- a key without its value
 abbrev pub refusedValueLacking : ℕ
 refusedValueLacking = 5
 
--- "6 mode"
+-- a mode that is neither udp nor tcp
 abbrev pub refusedMode : ℕ
 refusedMode = 6
 
--- "7 whole number malformed"
+-- a whole number that is malformed
 abbrev pub refusedWhole : ℕ
 refusedWhole = 7
 
--- "8 above 2^53"
+-- a whole number above 2^53
 abbrev pub refusedWholeAbove : ℕ
 refusedWholeAbove = 8
 
--- "9 zero for queue-cap, rate-bps, mtu or nat-change-every-ms"
+-- a zero where none may be
 abbrev pub refusedZero : ℕ
 refusedZero = 9
 
--- "10 decimal malformed"
+-- a decimal that is malformed
 abbrev pub refusedDecimal : ℕ
 refusedDecimal = 10
 
--- "11 probability above 1"
+-- a probability above 1
 abbrev pub refusedProbability : ℕ
 refusedProbability = 11
 
--- "12 ge not three parts"
+-- a burst loss that has not three parts
 abbrev pub refusedGeParts : ℕ
 refusedGeParts = 12
 
--- "13 ge p or r zero"
+-- a burst loss whose p or r is zero
 abbrev pub refusedGeZero : ℕ
 refusedGeZero = 13
 
--- "14 reorder above 0 with delay 0"
+-- reordering without a delay
 abbrev pub refusedReorder : ℕ
 refusedReorder = 14
 
--- "15 window lacks a colon"
+-- a window without a colon
 abbrev pub refusedColon : ℕ
 refusedColon = 15
 
--- "16 end ≤ start"
+-- a window that ends where it starts or before
 abbrev pub refusedWindow : ℕ
 refusedWindow = 16
 
--- "17 kill not three parts"
+-- a kill that has not three parts
 abbrev pub refusedKillParts : ℕ
 refusedKillParts = 17
 
--- "18 kill style"
+-- a kill whose style is neither rst nor hold
 abbrev pub refusedKillStyle : ℕ
 refusedKillStyle = 18
 
--- "19 over 128"
+-- more blackouts or kills than a direction can have
 abbrev pub refusedEntries : ℕ
 refusedEntries = 19
 
--- "20 option of the other mode"
+-- an option that the mode does not have
 abbrev pub refusedOtherMode : ℕ
 refusedOtherMode = 20
 
--- "21 instant NaN, sign bit set or above 2^53"
+-- an instant that is none
 abbrev pub refusedInstant : ℕ
 refusedInstant = 21
 
--- "22 length above 2,048"
+-- a packet that is too long
 abbrev pub refusedLength : ℕ
 refusedLength = 22
 
--- "23 lent memory too short"
+-- lent memory that is too short
 abbrev pub refusedMemory : ℕ
 refusedMemory = 23
 
--- "24 capacity out of range"
+-- a capacity that is 0 or too large
 abbrev pub refusedCapacity : ℕ
 refusedCapacity = 24
 
--- "25 (every call) a counter (torn too) or next seq handed in is 2^60 or more"
+-- a counter or a next seq that is too large
 abbrev pub refusedCounter : ℕ
 refusedCounter = 25
 
--- "26, found out of keeping"
+-- state or lent memory that was altered between calls
 abbrev pub refusedKeeping : ℕ
 refusedKeeping = 26
 
--- "27 due is NaN"
+-- a due that is NaN
 abbrev pub refusedDue : ℕ
 refusedDue = 27
 
--- "28, queue push when full"
+-- a queue that is full
 abbrev pub refusedFull : ℕ
 refusedFull = 28
 
--- "29 settings with a NaN, a probability outside 0 to 1, a float time outside 0 to 999999999999999, ..."
+-- settings of which one is out of its range
 abbrev pub refusedSettings : ℕ
 refusedSettings = 29

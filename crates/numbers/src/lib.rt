@@ -10,6 +10,8 @@ pub use extremes::maximum;
 pub use extremes::minimum;
 pub use instant::is_instant;
 pub use limits::MAX_CAPACITY;
+pub use limits::MAX_ENTRIES;
+pub use limits::MAX_EXACT;
 pub use limits::is_counter;
 pub use limits::is_length;
 pub use refusals::REFUSED_ARGUMENT;

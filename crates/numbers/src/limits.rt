@@ -1,6 +1,12 @@
 ghost use mathlib.Core.Path.{_≡_};
 ghost use Rattle.numbers.specs.Limits.{isLengthOf, isCounterOf};
 
+// Every whole number up to this one, 2^53, is a float.
+pub const MAX_EXACT: u64 = 9007199254740992;
+
+// The most blackouts, and the most kills, of a direction.
+pub const MAX_ENTRIES: usize = 128;
+
 // The longest packet in bytes.
 const MAX_LENGTH: usize = 2048;
 

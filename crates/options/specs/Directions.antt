@@ -41,7 +41,7 @@ lossesFrom loss ge = record { loss = floatOf loss; ge = ge .ge; refusal = earlie
 unfoldable pub lossesOf : List ℕ → List ℕ → Losses
 lossesOf s prefix = lossesFrom (numberAt s prefix Probability "loss") (geOf (lastValueOf (prefix ++ bytes "ge") s))
 
--- "14 reorder above 0 with delay 0"
+-- refusal 14: packets that are reordered have to be delayed for it
 unfoldable pub undelayedOf : Float → Float → ℕ
 undelayedOf reorder delay = cond (lt (whole 0) reorder) (cond (le delay (whole 0)) refusedReorder 0) 0
 
@@ -78,10 +78,16 @@ mtuOf (Setting.Decimal x) = MtuOption.Absent
 mtuOf (Setting.Whole n) = MtuOption.Present n
 mtuOf (Setting.Refused k) = MtuOption.Absent
 
--- a burst of 0 under a rate becomes the bytes of one second, but not less than 1500
+-- the burst of a rate that names none: what it carries in a second, but not less than 1,500 bytes
+abbrev pub leastBurst : ℕ
+leastBurst = 1500
+
+unfoldable pub defaultBurstOf : ℕ → ℕ
+defaultBurstOf bps = cond (ltb (bps / 8) leastBurst) leastBurst (bps / 8)
+
 unfoldable pub burstOf : ℕ → RateOption → ℕ
 burstOf burst RateOption.Absent = burst
-burstOf burst (RateOption.Present bps) = cond (eqb burst 0) (cond (ltb (bps / 8) 1500) 1500 (bps / 8)) burst
+burstOf burst (RateOption.Present bps) = cond (eqb burst 0) (defaultBurstOf bps) burst
 
 -- duplicates, rate and MTU
 abbrev pub limitsFrom : Setting → Setting → Setting → Setting → Limits
@@ -116,8 +122,8 @@ unfoldable pub schedulesOf : List ℕ → List ℕ → Schedules
 schedulesOf s prefix =
     schedulesFrom (listAt s prefix Blackout "blackout") (numberAt s prefix Positive "nat-change-every-ms") (listAt s prefix Kill "kill")
 
-unfoldable pub joinedOf : Losses → Delays → Limits → Schedules → Directed
-joinedOf a b c d = record {
+unfoldable pub combinedOf : Losses → Delays → Limits → Schedules → Directed
+combinedOf a b c d = record {
   config = record {
     loss = a .loss;
     ge = a .ge;
@@ -139,4 +145,4 @@ joinedOf a b c d = record {
 }
 
 unfoldable pub directionOf : List ℕ → List ℕ → Directed
-directionOf s prefix = joinedOf (lossesOf s prefix) (delaysOf s prefix) (limitsOf s prefix) (schedulesOf s prefix)
+directionOf s prefix = combinedOf (lossesOf s prefix) (delaysOf s prefix) (limitsOf s prefix) (schedulesOf s prefix)

@@ -1,4 +1,2 @@
--- In order: Empty (a text without bytes), Limits (rate, MTU and burst), Judgement (every answer passes refusal 29's judgement).
+-- Empty (a text without bytes).
 pub mod Empty
-pub mod Limits
-pub mod Judgement

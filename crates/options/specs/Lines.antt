@@ -1,4 +1,4 @@
--- Document 01's starred lines about the option text, as theorems about the definitions.
+-- The starred lines about the option text (document 01, "Lines to check"), as theorems about the definitions.
 use mathlib.Core.Path.{_≡_, refl}
 use mathlib.Core.Bool.{true, false}
 use mathlib.Core.List.{[], _∷_, _++_}
@@ -15,12 +15,12 @@ use Rattle.options.specs.declared.outcome.Outcome.the-variants.{Taken}
 use Rattle.options.specs.declared.outcome.Parsed.{Parsed}
 use Rattle.settings.specs.declared.window.WindowRead.{WindowRead}
 use Rattle.settings.specs.Bursts.{geOf}
-use Rattle.options.specs.Config.{defaultDirection, defaultConfig}
-use Rattle.options.specs.Directions.{lossesOf, undelayedOf, delaysOf, rateOf, mtuOf, burstOf, limitsOf, schedulesOf, joinedOf, directionOf}
+use Rattle.options.specs.Config.{directionWith, defaultDirection, defaultConfig}
+use Rattle.options.specs.Directions.{lossesOf, undelayedOf, delaysOf, rateOf, mtuOf, defaultBurstOf, burstOf, limitsOf, schedulesOf, combinedOf, directionOf}
 use Rattle.settings.specs.Lists.{noEntries, entriesOf}
 use Rattle.options.specs.Modes.{modeOf, otherModeOf}
-use Rattle.options.specs.Parse.{unclosedOf, textRefusalOf, refusedWith, settledOf, parseOf}
-use Rattle.options.specs.Scalars.{verboseOf, scalarsOf}
+use Rattle.options.specs.Parse.{unclosedOf, textRefusalOf, refusedWith, configuredOf, parseOf}
+use Rattle.options.specs.Scalars.{verboseOf, lineScalarsOf}
 use Rattle.settings.specs.Settings.{ofDecimal, parseSettingOf, settingOf, refusalOf, floatOf, wholeOf, earlier}
 use Rattle.settings.specs.Windows.{containsOf, boundsOf, parseWindowOf}
 
@@ -29,27 +29,27 @@ abbrev pub delayed : String → Parsed
 delayed v = parseOf (bytes "--c2s-delay-ms=" ++ (bytes v ++ (0 ∷ [])))
 
 -- a delay that was taken, with its value
-pub record Delays (v : String) (x : Float) : Type 0 where
+pub record TakenDelay (v : String) (x : Float) : Type 0 where
   pub outcome-is : delayed v .outcome ≡ Taken
   pub delay-is : delayed v .config .c2s .«delay_ms» ≡ x
 
 pub record OptionLines : Type 0 where
-  -- "`.5`, `5.`, `+2` taken"
-  pub half : Delays ".5" (decimalValue 5 1)
-  pub five : Delays "5." (decimalValue 5 0)
-  pub two : Delays "+2" (decimalValue 2 0)
-  -- "`.`, `nan`, `1e3` and sixteen digits give 10"
+  -- a decimal may end or start with its point, and have a plus sign
+  pub half : TakenDelay ".5" (decimalValue 5 1)
+  pub five : TakenDelay "5." (decimalValue 5 0)
+  pub two : TakenDelay "+2" (decimalValue 2 0)
+  -- what refusal 10 turns away
   pub point : delayed "." ≡ refusedWith refusedDecimal
   pub not-a-number : delayed "nan" ≡ refusedWith refusedDecimal
   pub exponent : delayed "1e3" ≡ refusedWith refusedDecimal
   pub sixteen-digits : delayed "1234567890123456" ≡ refusedWith refusedDecimal
-  -- "`10:20` holds 10, not 20"
+  -- a window holds its start and not its end
   pub ten-to-twenty : parseWindowOf (bytes "10:20") ≡ WindowRead.Taken (record { «start_ms» = 10; «end_ms» = 20 })
   pub holds-ten : containsOf (record { «start_ms» = 10; «end_ms» = 20 }) (whole 10) ≡ true
   pub not-twenty : containsOf (record { «start_ms» = 10; «end_ms» = 20 }) (whole 20) ≡ false
 
 pub option-lines : OptionLines
-unfolding parseOf unclosedOf textRefusalOf refusedWith settledOf scalarsOf verboseOf modeOf otherModeOf directionOf joinedOf lossesOf undelayedOf delaysOf rateOf mtuOf burstOf limitsOf schedulesOf noEntries entriesOf geOf defaultDirection defaultConfig ofDecimal parseSettingOf settingOf refusalOf floatOf wholeOf earlier gathered valuesOf lastValueOf decimalOf parseF64MsOf containsOf boundsOf parseWindowOf digitsFrom parseU64Of atMost lt le div ofInt decimalValue
+unfolding parseOf unclosedOf textRefusalOf refusedWith configuredOf lineScalarsOf verboseOf modeOf otherModeOf directionOf combinedOf lossesOf undelayedOf delaysOf rateOf mtuOf defaultBurstOf burstOf limitsOf schedulesOf noEntries entriesOf geOf directionWith defaultDirection defaultConfig ofDecimal parseSettingOf settingOf refusalOf floatOf wholeOf earlier gathered valuesOf lastValueOf decimalOf parseF64MsOf containsOf boundsOf parseWindowOf digitsFrom parseU64Of atMost lt le div ofInt decimalValue
 option-lines = record {
   half = record { outcome-is = refl; delay-is = refl };
   five = record { outcome-is = refl; delay-is = refl };

@@ -1,4 +1,4 @@
--- The mode, and refusal 20: "option of the other mode".
+-- The mode, and refusal 20: each mode has options that the other has not.
 use mathlib.Core.Bool.{cond}
 use mathlib.Core.List.{List}
 use Prim.Native.Nat.{ℕ}

@@ -5,7 +5,7 @@ use Prim.Native.Nat.{ℕ}
 use Rattle.args.specs.Arguments.{Value, absent, given, gathered, flagIn, lastValueOf}
 use Rattle.values.specs.Bytes.{bytes, same}
 use Rattle.options.specs.declared.mode.ModeRead.{ModeRead}
-use Rattle.options.specs.declared.scalars.Scalars.{Scalars}
+use Rattle.options.specs.declared.scalars.LineScalars.{LineScalars}
 use Rattle.settings.specs.declared.setting.Kind.the-variants.{Seed, Count, Positive}
 use Rattle.settings.specs.declared.setting.Setting.{Setting}
 use Rattle.options.specs.Config.{defaultConfig}
@@ -19,12 +19,12 @@ abbrev pub yesAt : Value → Bool
 yesAt absent = false
 yesAt (given v) = yesOf v
 
--- "`--verbose=V` is kept as a scalar; the bare flag wins"
+-- the bare flag counts, or else the last value
 unfoldable pub verboseOf : List ℕ → Bool
 verboseOf s = flagIn (gathered s .items) || yesAt (lastValueOf (bytes "verbose") s)
 
-abbrev pub scalarsFrom : ModeRead → Setting → Setting → Setting → Bool → Scalars
-scalarsFrom mode seed duration cap verbose = record {
+abbrev pub lineScalarsFrom : ModeRead → Setting → Setting → Setting → Bool → LineScalars
+lineScalarsFrom mode seed duration cap verbose = record {
   mode = mode .mode;
   seed = wholeOf (defaultConfig .seed) seed;
   «duration_ms» = wholeOf (defaultConfig .«duration_ms») duration;
@@ -33,9 +33,9 @@ scalarsFrom mode seed duration cap verbose = record {
   refusal = earlier (mode .refusal) (earlier (refusalOf seed) (earlier (refusalOf duration) (refusalOf cap)));
 }
 
-unfoldable pub scalarsOf : List ℕ → Scalars
-scalarsOf s =
-    scalarsFrom
+unfoldable pub lineScalarsOf : List ℕ → LineScalars
+lineScalarsOf s =
+    lineScalarsFrom
     (modeOf (lastValueOf (bytes "mode") s))
     (settingOf Seed (lastValueOf (bytes "seed") s))
     (settingOf Count (lastValueOf (bytes "duration-ms") s))

@@ -2,6 +2,7 @@
 ghost use mathlib.Core.Path.{_≡_};
 ghost use Rattle.options.specs.Config.{defaultDirection, defaultConfig};
 use crate::mode::Mode;
+use numbers::MAX_ENTRIES;
 use settings::GeOption;
 use settings::TcpKill;
 use settings::Window;
@@ -32,10 +33,10 @@ pub struct DirectionConfig {
     pub rate_bps: RateOption,
     pub rate_burst_bytes: u64,
     pub mtu: MtuOption,
-    pub blackouts: [Window; 128],
+    pub blackouts: [Window; MAX_ENTRIES],
     pub blackout_count: usize,
     pub nat_change_every_ms: u64,
-    pub tcp_kills: [TcpKill; 128],
+    pub tcp_kills: [TcpKill; MAX_ENTRIES],
     pub tcp_kill_count: usize,
 }
 
@@ -57,10 +58,10 @@ impl DirectionConfig {
             rate_bps: RateOption::Absent,
             rate_burst_bytes: 0,
             mtu: MtuOption::Absent,
-            blackouts: [window; 128],
+            blackouts: [window; MAX_ENTRIES],
             blackout_count: 0,
             nat_change_every_ms: 0,
-            tcp_kills: [kill; 128],
+            tcp_kills: [kill; MAX_ENTRIES],
             tcp_kill_count: 0,
         }
     }

@@ -1,6 +1,6 @@
 // The settings of one direction.
 ghost use mathlib.Core.Path.{_≡_};
-ghost use Rattle.options.specs.Directions.{joinedOf, directionOf};
+ghost use Rattle.options.specs.Directions.{combinedOf, directionOf};
 use crate::config::DirectionConfig;
 use crate::delays::Delays;
 use crate::delays::delays_of;
@@ -18,8 +18,8 @@ pub struct Directed {
     pub refusal: u32,
 }
 
-fn joined(a: Losses, b: Delays, c: Limits, d: Schedules) -> Directed
-    ensures { λ r. ⌜ r ≡ joinedOf a b c d ⌝ }
+fn combined(a: Losses, b: Delays, c: Limits, d: Schedules) -> Directed
+    ensures { λ r. ⌜ r ≡ combinedOf a b c d ⌝ }
 {
     let refusal = earlier_of(
         a.refusal,
@@ -60,5 +60,5 @@ pub fn direction_of(text: &[u8], prefix: &[u8]) -> Directed
     let delays = delays_of(text, prefix);
     let limits = limits_of(text, prefix);
     let schedules = schedules_of(text, prefix);
-    joined(losses, delays, limits, schedules)
+    combined(losses, delays, limits, schedules)
 }

@@ -14,6 +14,7 @@ pub use config::Config;
 pub use config::DirectionConfig;
 pub use config::MtuOption;
 pub use config::RateOption;
+pub use limits::default_burst;
 pub use mode::Mode;
 pub use outcome::Outcome;
 pub use outcome::Parsed;

@@ -1,6 +1,6 @@
 // The options of a direction that duplicate packets and limit rate and length.
 ghost use mathlib.Core.Path.{_≡_};
-ghost use Rattle.options.specs.Directions.{rateOf, burstOf, mtuOf, limitsOf};
+ghost use Rattle.options.specs.Directions.{rateOf, defaultBurstOf, burstOf, mtuOf, limitsOf};
 use crate::config::MtuOption;
 use crate::config::RateOption;
 use settings::Kind;
@@ -48,7 +48,22 @@ fn mtu_of(s: Setting) -> MtuOption
     }
 }
 
-// The burst that was set, or else one second of the rate, but not less than 1,500 bytes.
+// The least burst of a rate that names none, in bytes.
+const LEAST_BURST: u64 = 1500;
+
+// The burst of a rate that names none: what it carries in a second, but not less than the least.
+pub fn default_burst(bps: u64) -> u64
+    ensures { λ r. ⌜ r ≡ defaultBurstOf bps ⌝ }
+{
+    let second = bps / 8;
+    if second < LEAST_BURST {
+        LEAST_BURST
+    } else {
+        second
+    }
+}
+
+// The burst that was set, or else the rate's own.
 fn burst_of(burst: u64, rate: RateOption) -> u64
     ensures { λ r. ⌜ r ≡ burstOf burst rate ⌝ }
 {
@@ -56,8 +71,7 @@ fn burst_of(burst: u64, rate: RateOption) -> u64
         RateOption::Absent => burst,
         RateOption::Present(bps) => {
             if burst == 0 {
-                let second = bps / 8;
-                if second < 1500 { 1500 } else { second }
+                default_burst(bps)
             } else {
                 burst
             }

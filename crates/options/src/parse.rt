@@ -1,14 +1,14 @@
 // The whole option text.
 ghost use mathlib.Core.Path.{_≡_};
-ghost use Rattle.options.specs.Parse.{anyHigh, unclosedOf, textRefusalOf, refusedWith, settledOf, parseOf};
+ghost use Rattle.options.specs.Parse.{anyHigh, unclosedOf, textRefusalOf, refusedWith, configuredOf, parseOf};
 use crate::config::Config;
 use crate::direction::Directed;
 use crate::direction::direction_of;
 use crate::mode::other_mode;
 use crate::outcome::Outcome;
 use crate::outcome::Parsed;
-use crate::scalars::Scalars;
-use crate::scalars::scalars_of;
+use crate::scalars::LineScalars;
+use crate::scalars::line_scalars;
 use args::refusal_of;
 use numbers::REFUSED_BYTE;
 use numbers::REFUSED_TEXT_END;
@@ -66,8 +66,8 @@ fn refused_with(refusal: u32) -> Parsed
 }
 
 // The settings of a text whose parts were read, or their first refusal.
-fn settled(s: Scalars, c2s: Directed, s2c: Directed) -> Parsed
-    ensures { λ r. ⌜ r ≡ settledOf s c2s s2c ⌝ }
+fn configured(s: LineScalars, c2s: Directed, s2c: Directed) -> Parsed
+    ensures { λ r. ⌜ r ≡ configuredOf s c2s s2c ⌝ }
 {
     let mode = s.mode;
     let modes = earlier_of(other_mode(mode, c2s), other_mode(mode, s2c));
@@ -100,8 +100,8 @@ pub fn parse_config(text: &[u8]) -> Parsed
     if refusal != 0 {
         return refused_with(refusal);
     }
-    let scalars = scalars_of(text);
+    let scalars = line_scalars(text);
     let c2s = direction_of(text, b"c2s-");
     let s2c = direction_of(text, b"s2c-");
-    settled(scalars, c2s, s2c)
+    configured(scalars, c2s, s2c)
 }

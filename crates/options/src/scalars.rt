@@ -1,6 +1,6 @@
 // The options that stand for the whole line.
 ghost use mathlib.Core.Path.{_≡_};
-ghost use Rattle.options.specs.Scalars.{yesOf, verboseOf, scalarsOf};
+ghost use Rattle.options.specs.Scalars.{yesOf, verboseOf, lineScalarsOf};
 use crate::config::DEFAULT_QUEUE_CAP;
 use crate::config::DEFAULT_SEED;
 use crate::limits::size;
@@ -17,7 +17,7 @@ use settings::whole;
 use values::is_same;
 use values::part;
 
-pub struct Scalars {
+pub struct LineScalars {
     pub mode: Mode,
     pub seed: u64,
     pub duration_ms: u64,
@@ -56,8 +56,8 @@ fn verbose_at(text: &[u8]) -> bool
     }
 }
 
-pub fn scalars_of(text: &[u8]) -> Scalars
-    ensures { λ r. ⌜ r ≡ scalarsOf (now (text .entry)) ⌝ }
+pub fn line_scalars(text: &[u8]) -> LineScalars
+    ensures { λ r. ⌜ r ≡ lineScalarsOf (now (text .entry)) ⌝ }
 {
     let read = mode_at(text);
     let seed = setting_at(text, b"", b"seed", Kind::Seed);
@@ -66,7 +66,7 @@ pub fn scalars_of(text: &[u8]) -> Scalars
     let verbose = verbose_at(text);
     let mode = read.mode;
     let last = earlier_of(refusal(duration), refusal(cap));
-    Scalars {
+    LineScalars {
         mode,
         seed: whole(seed, DEFAULT_SEED),
         duration_ms: whole(duration, 0),

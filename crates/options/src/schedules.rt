@@ -1,6 +1,7 @@
 // The options of a direction that name times.
 ghost use mathlib.Core.Path.{_≡_};
 ghost use Rattle.options.specs.Directions.{schedulesOf};
+use numbers::MAX_ENTRIES;
 use settings::EntryKind;
 use settings::Kind;
 use settings::TcpKill;
@@ -13,10 +14,10 @@ use settings::whole;
 use settings::windows_of;
 
 pub struct Schedules {
-    pub blackouts: [Window; 128],
+    pub blackouts: [Window; MAX_ENTRIES],
     pub blackout_count: usize,
     pub nat_change_every_ms: u64,
-    pub tcp_kills: [TcpKill; 128],
+    pub tcp_kills: [TcpKill; MAX_ENTRIES],
     pub tcp_kill_count: usize,
     pub refusal: u32,
 }

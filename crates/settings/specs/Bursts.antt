@@ -16,7 +16,7 @@ use Rattle.numbers.specs.Whole.{whole}
 abbrev pub noGe : ℕ → GeRead
 noGe k = record { ge = GeOption.Absent; refusal = k }
 
--- "13 ge p or r zero"
+-- refusal 13: the chances to turn bad and to turn good again are not zero
 abbrev pub burstsOf : Float → Float → Float → GeRead
 burstsOf p r h = cond (le p (whole 0)) (noGe refusedGeZero) (cond (le r (whole 0)) (noGe refusedGeZero) (record { ge = GeOption.Present (record { p = p; r = r; h = h }); refusal = 0 }))
 
@@ -27,7 +27,7 @@ chancesOf (Decimal.Number p) (Decimal.Refused k) h = noGe k
 chancesOf (Decimal.Number p) (Decimal.Number r) (Decimal.Refused k) = noGe k
 chancesOf (Decimal.Number p) (Decimal.Number r) (Decimal.Number h) = burstsOf p r h
 
--- "12 ge not three parts"
+-- colons part the three chances; refusal 12 where they are not three
 abbrev pub geParts : List ℕ → List ℕ → List ℕ → GeRead
 geParts p r h = chancesOf (parseProbOf p) (parseProbOf r) (parseProbOf h)
 

@@ -5,6 +5,7 @@ use Prim.Native.Nat.{ℕ}
 use lib.Dec.{leb, ltb, eqb}
 use lib.Ieee.{Float, le}
 use lib.ListN.{take}
+use Rattle.numbers.specs.Limits.{maxEntries}
 use Rattle.numbers.specs.Whole.{whole}
 use Rattle.values.specs.Whole.{isBounded}
 use Rattle.settings.specs.declared.ge.GeOption.{GeOption}
@@ -38,6 +39,6 @@ abbrev pub allOf : {A : Type 0} → (A → Bool) → List A → Bool
 allOf is [] = true
 allOf is (x ∷ l) = is x && allOf is l
 
--- at most 128 entries are counted, and each of these passes
+-- no more entries are counted than there can be, and each of these passes
 abbrev pub isList : {A : Type 0} → (A → Bool) → List A → ℕ → Bool
-isList is l count = leb count 128 && allOf is (take count l)
+isList is l count = leb count maxEntries && allOf is (take count l)

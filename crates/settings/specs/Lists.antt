@@ -1,9 +1,11 @@
--- Blackouts and kills: "at most 128 blackouts and 128 kills a direction", "The 129th window is read before 19 is given."
+-- Blackouts and kills (document 01, "Records" and "Option text"): of each a direction has at most 128; one more is read and then refused by 19, if not by its own
+-- refusal.
 use mathlib.Core.Bool.{cond}
 use mathlib.Core.List.{List, [], _∷_}
 use Prim.Native.Nat.{ℕ, _+_}
 use lib.Dec.{ltb, eqb}
 use lib.ListN.{set, replicate}
+use Rattle.numbers.specs.Limits.{maxEntries}
 use Rattle.numbers.specs.Refusals.{refusedEntries}
 use Rattle.settings.specs.declared.entries.Entries.{Entries}
 use Rattle.settings.specs.declared.entries.EntryKind.{EntryKind}
@@ -15,7 +17,7 @@ use Rattle.settings.specs.declared.window.Window.{Window}
 use Rattle.settings.specs.declared.window.WindowRead.{WindowRead}
 use Rattle.settings.specs.Windows.{noKill, parseWindowOf, parseKillOf}
 
--- a blackout is a window, kept as one that holds
+-- a blackout is a window that holds
 unfoldable pub heldOf : WindowRead → KillRead
 heldOf (WindowRead.Refused k) = KillRead.Refused k
 heldOf (WindowRead.Taken w) = KillRead.Taken (record { window = w; style = Hold })
@@ -29,11 +31,11 @@ parseEntryOf Kill v = parseKillOf v
 
 -- nothing gathered, with 0 or a refusal
 unfoldable pub noEntries : ℕ → Entries
-noEntries k = record { kills = replicate 128 noKill; count = 0; refusal = k }
+noEntries k = record { kills = replicate maxEntries noKill; count = 0; refusal = k }
 
 abbrev pub entered : Entries → KillRead → Entries
 entered e (KillRead.Refused k) = noEntries k
-entered e (KillRead.Taken w) = cond (ltb (e .count) 128) (record { kills = set (e .kills) (e .count) w; count = e .count + 1; refusal = 0 }) (noEntries refusedEntries)
+entered e (KillRead.Taken w) = cond (ltb (e .count) maxEntries) (record { kills = set (e .kills) (e .count) w; count = e .count + 1; refusal = 0 }) (noEntries refusedEntries)
 
 -- one entry more; the first refusal stays
 unfoldable pub withEntry : Entries → KillRead → Entries

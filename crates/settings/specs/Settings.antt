@@ -1,4 +1,4 @@
--- Options that are one number: "Seed may be any; all others at most 2^53", zero is refused where document 01's refusal 9 says so.
+-- Options that are one number (document 01, "Option text"): the seed may be any below 2^64, a count is at most 2^53, and some may not be zero.
 use mathlib.Core.Bool.{cond}
 use mathlib.Core.List.{List}
 use Prim.Native.Nat.{ℕ}

@@ -1,4 +1,4 @@
--- Windows and kills. "A window holds t when start ≤ t < end."
+-- Windows and kills: a window holds its start and not its end (document 01, "Arrival engine").
 use mathlib.Core.Bool.{Bool, _&&_, cond}
 use mathlib.Core.List.{List}
 use Prim.Native.Nat.{ℕ}
@@ -8,7 +8,7 @@ use Rattle.numbers.specs.Refusals.{refusedColon, refusedWindow, refusedKillPart
 use Rattle.numbers.specs.Whole.{whole}
 use Rattle.values.specs.declared.whole.Whole.{Whole}
 use Rattle.values.specs.Blanks.{trimmed}
-use Rattle.values.specs.Bytes.{bytes, same, has, before, behind, colon}
+use Rattle.values.specs.Bytes.{bytes, same, has, beforeFirst, behindFirst, colon}
 use Rattle.values.specs.Parts.{split, three}
 use Rattle.values.specs.Whole.{parseBoundedOf}
 use Rattle.settings.specs.declared.kill.KillRead.{KillRead}
@@ -28,19 +28,19 @@ noKill = record { window = noWindow; style = Hold }
 unfoldable pub containsOf : Window → Float → Bool
 containsOf w t = le (whole (w .«start_ms»)) t && lt t (whole (w .«end_ms»))
 
--- the first of the two bounds that is refused counts, then 16: "end ≤ start"
+-- the first of the two bounds that is refused counts, then 16, where the window is empty
 unfoldable pub boundsOf : Whole → Whole → WindowRead
 boundsOf (Whole.Refused k) end = WindowRead.Refused k
 boundsOf (Whole.Number s) (Whole.Refused k) = WindowRead.Refused k
 boundsOf (Whole.Number s) (Whole.Number e) = cond (leb e s) (WindowRead.Refused refusedWindow) (WindowRead.Taken (record { «start_ms» = s; «end_ms» = e }))
 
--- "Windows trim ASCII blanks (9 to 13, 32) around each bound."
+-- a bound may have blanks around it
 abbrev pub boundOf : List ℕ → Whole
 boundOf v = parseBoundedOf (trimmed v)
 
 -- the first colon parts the bounds
 unfoldable pub parseWindowOf : List ℕ → WindowRead
-parseWindowOf v = cond (has colon v) (boundsOf (boundOf (before colon v)) (boundOf (behind colon v))) (WindowRead.Refused refusedColon)
+parseWindowOf v = cond (has colon v) (boundsOf (boundOf (beforeFirst colon v)) (boundOf (behindFirst colon v))) (WindowRead.Refused refusedColon)
 
 unfoldable pub parseStyleOf : List ℕ → StyleRead
 parseStyleOf v = cond (same v (bytes "rst")) (StyleRead.Taken Rst) (cond (same v (bytes "hold")) (StyleRead.Taken Hold) (StyleRead.Refused refusedKillStyle))
@@ -54,6 +54,6 @@ styledOf (WindowRead.Taken w) (StyleRead.Taken s) = KillRead.Taken (record { win
 abbrev pub killParts : List ℕ → List ℕ → List ℕ → KillRead
 killParts start end style = styledOf (boundsOf (boundOf start) (boundOf end)) (parseStyleOf style)
 
--- "17 kill not three parts"
+-- colons part start, end and style; refusal 17 where they are not three
 unfoldable pub parseKillOf : List ℕ → KillRead
 parseKillOf v = three killParts (KillRead.Refused refusedKillParts) (split colon v)

@@ -13,18 +13,19 @@ use crate::window::WindowRead;
 use crate::window::no_window;
 use args::Cursor;
 use args::Found;
+use numbers::MAX_ENTRIES;
 use numbers::REFUSED_ENTRIES;
 use values::part;
 
-// EntryKind list is read.
+// Which list is read.
 pub enum EntryKind {
     Blackout,
     Kill,
 }
 
-// What was gathered, with 0 or the number of the refusal; a blackout is kept as a window that holds.
+// What was gathered, with 0 or the number of the refusal; a blackout is a window that holds.
 pub struct Entries {
-    pub kills: [TcpKill; 128],
+    pub kills: [TcpKill; MAX_ENTRIES],
     pub count: usize,
     pub refusal: u32,
 }
@@ -34,7 +35,7 @@ fn no_entries(refusal: u32) -> Entries
 {
     let kill = no_kill();
     Entries {
-        kills: [kill; 128],
+        kills: [kill; MAX_ENTRIES],
         count: 0,
         refusal,
     }
@@ -74,7 +75,7 @@ fn with_entry(entries: Entries, entry: KillRead) -> Entries
         KillRead::Refused(k) => no_entries(k),
         KillRead::Taken(kill) => {
             let n = entries.count;
-            if n < 128 {
+            if n < MAX_ENTRIES {
                 let mut kills = entries.kills;
                 kills[n] = kill;
                 Entries {
@@ -110,13 +111,13 @@ pub fn entries_at(text: &[u8], prefix: &[u8], name: &[u8], kind: EntryKind) -> E
 }
 
 // The windows of kills.
-pub fn windows_of(kills: [TcpKill; 128]) -> [Window; 128]
+pub fn windows_of(kills: [TcpKill; MAX_ENTRIES]) -> [Window; MAX_ENTRIES]
     ensures { λ r. ⌜ r ≡ map windowOf kills ⌝ }
 {
     let none = no_window();
-    let mut windows = [none; 128];
+    let mut windows = [none; MAX_ENTRIES];
     let mut i: usize = 0;
-    while i < 128 {
+    while i < MAX_ENTRIES {
         let kill = kills[i];
         let window = kill.window;
         windows[i] = window;

@@ -1,4 +1,4 @@
--- The chain of an arrival's steps, once the windows have been asked (steps 2 and 3).
+-- The chain of an arrival's steps (document 01, "Arrival engine"), once the windows have been asked (steps 2 and 3).
 use mathlib.Core.Bool.{Bool, false, cond}
 use Prim.Native.Nat.{ℕ}
 use lib.Ieee.{Float, binary64, add}
@@ -11,7 +11,7 @@ use Rattle.steps.specs.declared.decision.Decision.the-variants.{DropRand
 use Rattle.steps.specs.declared.gate.Gate.{Gate}
 use Rattle.steps.specs.declared.gate.Gate.the-variants.{Open, Reset, Held, Blackout}
 use Rattle.steps.specs.Chance.{chanceOf}
-use Rattle.steps.specs.Burst.{burstOf}
+use Rattle.steps.specs.Burst.{burstLossOf}
 use Rattle.steps.specs.Mtu.{exceedsOf}
 use Rattle.steps.specs.Bucket.{chargedOf, lastRefillOf, isDeferredOf}
 use Rattle.steps.specs.Due.{jitteredOf, reorderedOf, owedOf}
@@ -40,25 +40,25 @@ scheduledOf c s now len =
       reordered = reorder .hit;
     }
 
--- 6. MTU
-unfoldable pub mtuOf : DirectionScalars → ArrivalState → Float → ℕ → Arrival
-mtuOf c s now len = cond (exceedsOf (c .mtu) len) (stoppedOf s DropMtu) (scheduledOf c s now len)
+-- 6. MTU, and the steps behind it
+unfoldable pub fromMtu : DirectionScalars → ArrivalState → Float → ℕ → Arrival
+fromMtu c s now len = cond (exceedsOf (c .mtu) len) (stoppedOf s DropMtu) (scheduledOf c s now len)
 
--- 5. GE
-unfoldable pub geOf : DirectionScalars → ArrivalState → Float → ℕ → Arrival
-geOf c s now len =
-    let burst = burstOf (s .rng) (s .«ge_bad») (c .ge) in
+-- 5. GE, and the steps behind it
+unfoldable pub fromGe : DirectionScalars → ArrivalState → Float → ℕ → Arrival
+fromGe c s now len =
+    let burst = burstLossOf (s .rng) (s .«ge_bad») (c .ge) in
     let after = drawnOf s (burst .rng) (burst .bad) in
-    cond (burst .hit) (stoppedOf after DropGe) (mtuOf c after now len)
+    cond (burst .hit) (stoppedOf after DropGe) (fromMtu c after now len)
 
--- 4. loss
+-- 4. loss, and the steps behind it
 unfoldable pub passedOf : DirectionScalars → ArrivalState → Float → ℕ → Arrival
 passedOf c s now len =
     let loss = chanceOf (s .rng) (c .loss) in
     let after = drawnOf s (loss .rng) (s .«ge_bad») in
-    cond (loss .hit) (stoppedOf after DropRandom) (geOf c after now len)
+    cond (loss .hit) (stoppedOf after DropRandom) (fromGe c after now len)
 
--- 2. and 3. "rst gives KillRst, hold drops as blackout"
+-- 2. and 3. what the windows say, and the steps behind it where they let the packet through
 unfoldable pub arrivedOf : Gate → DirectionScalars → ArrivalState → Float → ℕ → Arrival
 arrivedOf Open c s now len = passedOf c s now len
 arrivedOf Reset c s now len = stoppedOf s KillRst

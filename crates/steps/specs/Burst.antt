@@ -1,4 +1,4 @@
--- "5. GE: one draw for the flip, a second only if the state is now bad."
+-- Step 5 of an arrival (document 01, "Arrival engine"), burst loss: the state is drawn anew, and a bad one draws once more, for the packet.
 use mathlib.Core.Bool.{Bool, false, cond, not}
 use lib.Ieee.{Float, lt}
 use Rattle.draws.specs.Rng.{nextF64Of}
@@ -12,8 +12,8 @@ unfoldable pub lostOf : Rng → Bool → Float → Burst
 lostOf g bad h = cond bad (record { rng = nextF64Of g .rng; bad = bad; hit = lt (nextF64Of g .value) h }) (record { rng = g; bad = bad; hit = false })
 
 -- the state turns bad with the chance p, and good again with the chance r
-unfoldable pub burstOf : Rng → Bool → GeOption → Burst
-burstOf g bad Absent = record { rng = g; bad = bad; hit = false }
-burstOf g bad (Present q) =
+unfoldable pub burstLossOf : Rng → Bool → GeOption → Burst
+burstLossOf g bad Absent = record { rng = g; bad = bad; hit = false }
+burstLossOf g bad (Present q) =
     let flip = lt (nextF64Of g .value) (cond bad (q .r) (q .p)) in
     lostOf (nextF64Of g .rng) (cond flip (not bad) bad) (q .h)

@@ -1,4 +1,4 @@
--- A draw against a probability: loss (step 4) is "drawn only if above 0", and "steps 8 to 10 draw only where their probability or jitter is above 0".
+-- A draw against a probability (document 01, "Arrival engine", steps 4, 8 and 10): without a chance to hit there is none, and the generator stays.
 use mathlib.Core.Bool.{false, cond}
 use lib.Ieee.{Float, lt}
 use Rattle.numbers.specs.Whole.{whole}

@@ -1,7 +1,8 @@
--- Steps 9 to 11: "now + delay, then jitter draw", "reorder draw", and "debt: due is at least now + debt × 8000 / rate".
+-- Steps 9 to 11 of an arrival (document 01, "Arrival engine"): what jitter and reordering add to the due, and the wait for a debt, before which nothing is due.
 use mathlib.Core.Bool.{Bool, cond}
-use lib.Ieee.{Float, binary64, add, mul, div, neg, lt}
+use lib.Ieee.{Float, binary64, add, mul, lt}
 use Rattle.numbers.specs.Whole.{whole}
+use Rattle.numbers.specs.Credit.{waitOf}
 use Rattle.numbers.specs.Extremes.{maximumOf}
 use Rattle.draws.specs.Rng.{nextF64Of}
 use Rattle.draws.specs.declared.rng.Rng.{Rng}
@@ -19,7 +20,7 @@ reorderedOf hit due delay = cond hit (add binary64 due delay) due
 
 unfoldable pub waitedOf : Float → RateOption → Float → Float → Float
 waitedOf tokens Absent now due = due
-waitedOf tokens (Present bps) now due = maximumOf due (add binary64 now (div binary64 (mul binary64 (neg tokens) (whole 8000)) (whole bps)))
+waitedOf tokens (Present bps) now due = maximumOf due (add binary64 now (waitOf tokens (whole bps)))
 
 -- a credit below 0 is a debt
 unfoldable pub owedOf : Float → RateOption → Float → Float → Float

@@ -1,7 +1,8 @@
--- How many entries of a list of 128 are counted.
+-- How many entries of a list are counted: no more than there can be.
 use mathlib.Core.Bool.{cond}
 use Prim.Native.Nat.{ℕ}
 use lib.Dec.{ltb}
+use Rattle.numbers.specs.Limits.{maxEntries}
 
 unfoldable pub entryCountOf : ℕ → ℕ
-entryCountOf count = cond (ltb count 128) count 128
+entryCountOf count = cond (ltb count maxEntries) count maxEntries

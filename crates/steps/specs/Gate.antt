@@ -1,4 +1,4 @@
--- Steps 2 and 3, over the counted entries of the lists.
+-- Steps 2 and 3 of an arrival (document 01, "Arrival engine"), over the counted entries of the lists.
 use mathlib.Core.Bool.{Bool, true, false, _&&_, _||_, cond, Bool·beq}
 use mathlib.Core.List.{List, [], _∷_}
 use lib.Ieee.{Float}
@@ -14,7 +14,7 @@ unfoldable pub styleGateOf : KillStyle → Gate
 styleGateOf Rst = Reset
 styleGateOf Hold = Held
 
--- "2. The first kill in list order whose window holds the instant decides"
+-- step 2: of the kills whose windows hold the instant the first in the list counts
 unfoldable pub killGateOf : List TcpKill → Float → Gate
 killGateOf [] now = Open
 killGateOf (k ∷ ks) now = cond (containsOf (k .window) now) (styleGateOf (k .style)) (killGateOf ks now)
@@ -24,7 +24,7 @@ unfoldable pub anyWindowOf : List Window → Float → Bool
 anyWindowOf [] now = false
 anyWindowOf (w ∷ ws) now = containsOf w now || anyWindowOf ws now
 
--- "3. Blackouts", where no kill decides
+-- step 3: blackouts are asked where no kill decides
 unfoldable pub gateOf : Gate → Bool → Gate
 gateOf Open blackout = cond blackout Blackout Open
 gateOf Reset blackout = Reset

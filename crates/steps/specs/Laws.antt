@@ -1,4 +1,4 @@
--- Entries (the counted entries of a list of 128), Credit (the bucket's credit), Sound (what an arrival keeps).
+-- Entries (the counted entries of a list), Credit (the bucket's credit), Sound (a sound state stays one, and dues are numbers).
 pub mod Entries
 pub mod Credit
 pub mod Sound

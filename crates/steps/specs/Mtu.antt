@@ -1,4 +1,4 @@
--- "6. MTU, only when length > mtu."
+-- Step 6 of an arrival (document 01, "Arrival engine"), the MTU: what is longer does not pass.
 use mathlib.Core.Bool.{Bool, false}
 use Prim.Native.Nat.{ℕ}
 use lib.Dec.{ltb}

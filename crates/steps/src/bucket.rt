@@ -1,8 +1,8 @@
 // The token bucket, in bytes of credit.
 ghost use mathlib.Core.Path.{_≡_};
-ghost use mathlib.Core.Bool.{cond};
-ghost use lib.Dec.{ltb};
-ghost use Rattle.steps.specs.Bucket.{bucketCapacityOf, refilledOf, chargedOf, lastRefillOf, isDeferredOf};
+ghost use Rattle.numbers.specs.Whole.{whole};
+ghost use Rattle.numbers.specs.Credit.{refilledOf};
+ghost use Rattle.steps.specs.Bucket.{bucketCapacityOf, chargedOf, lastRefillOf, isDeferredOf};
 use options::RateOption;
 
 // The credit of a full bucket.
@@ -14,19 +14,13 @@ pub fn bucket_capacity(rate: RateOption, rate_burst_bytes: u64) -> u64
     }
     match rate {
         RateOption::Absent => 0,
-        RateOption::Present(bps) => larger(bps / 8, 1500),
+        RateOption::Present(bps) => options::default_burst(bps),
     }
-}
-
-fn larger(m: u64, n: u64) -> u64
-    ensures { λ r. ⌜ r ≡ cond (ltb m n) n m ⌝ }
-{
-    if m < n { n } else { m }
 }
 
 // The credit after some milliseconds, up to the capacity.
 fn refilled(tokens: f64, elapsed_ms: f64, bps: u64, capacity: u64) -> f64
-    ensures { λ r. ⌜ r ≡ refilledOf tokens «elapsed_ms» bps capacity ⌝ }
+    ensures { λ r. ⌜ r ≡ refilledOf tokens «elapsed_ms» (whole bps) (whole capacity) ⌝ }
 {
     let rate = numbers::float_of(bps);
     let cap = numbers::float_of(capacity);

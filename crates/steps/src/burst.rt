@@ -1,7 +1,7 @@
 // Gilbert-Elliott burst loss.
 ghost use mathlib.Core.Path.{_≡_};
 ghost use mathlib.Core.Bool.{cond, not};
-ghost use Rattle.steps.specs.Burst.{lostOf, burstOf};
+ghost use Rattle.steps.specs.Burst.{lostOf, burstLossOf};
 use draws::Rng;
 use settings::GeOption;
 
@@ -12,9 +12,9 @@ pub struct Burst {
     pub hit: bool,
 }
 
-// One draw for the flip, and a second one only if the state is now bad.
+// A draw may turn the state, and a bad state draws again, for the packet.
 pub(crate) fn burst_loss(rng: Rng, bad: bool, ge: GeOption) -> Burst
-    ensures { λ r. ⌜ r ≡ burstOf rng bad ge ⌝ }
+    ensures { λ r. ⌜ r ≡ burstLossOf rng bad ge ⌝ }
 {
     match ge {
         GeOption::Absent => Burst {

@@ -3,6 +3,7 @@ ghost use mathlib.Core.Path.{_≡_};
 ghost use lib.ListN.{take};
 ghost use Rattle.steps.specs.Gate.{isRstOf, styleGateOf, killGateOf, killNowOf};
 use crate::entries::entry_count;
+use numbers::MAX_ENTRIES;
 use settings::KillStyle;
 use settings::TcpKill;
 
@@ -32,8 +33,8 @@ fn is_rst(style: KillStyle) -> bool
     }
 }
 
-// The first kill whose window holds the instant decides.
-pub fn kill_gate(kills: [TcpKill; 128], count: usize, now_ms: f64) -> Gate
+// What the first kill says whose window holds the instant.
+pub fn kill_gate(kills: [TcpKill; MAX_ENTRIES], count: usize, now_ms: f64) -> Gate
     ensures { λ r. ⌜ r ≡ killGateOf (take count kills) «now_ms» ⌝ }
 {
     let n = entry_count(count);
@@ -55,7 +56,7 @@ pub fn kill_gate(kills: [TcpKill; 128], count: usize, now_ms: f64) -> Gate
 }
 
 // Whether the instant lies in the window of some kill that resets, or of some kill that holds bytes back.
-pub fn kill_now(kills: [TcpKill; 128], count: usize, rst: bool, now_ms: f64) -> bool
+pub fn kill_now(kills: [TcpKill; MAX_ENTRIES], count: usize, rst: bool, now_ms: f64) -> bool
     ensures { λ r. ⌜ r ≡ killNowOf rst (take count kills) «now_ms» ⌝ }
 {
     let n = entry_count(count);

@@ -1,4 +1,4 @@
--- "Windows trim ASCII blanks (9 to 13, 32) around each bound."
+-- The blanks that a window may have around its bounds (document 01, "Option text"): the space, and the bytes 9 to 13.
 use mathlib.Core.Bool.{Bool, true, _&&_, _||_, cond}
 use mathlib.Core.List.{List, [], _∷_}
 use Prim.Native.Nat.{ℕ, suc}

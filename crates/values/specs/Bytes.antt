@@ -21,11 +21,11 @@ upTo b (x ∷ s) = cond (eqb x b) 0 (suc (upTo b s))
 abbrev pub has : ℕ → List ℕ → Bool
 has b s = ltb (upTo b s) (length s)
 
-abbrev pub before : ℕ → List ℕ → List ℕ
-before b s = take (upTo b s) s
+abbrev pub beforeFirst : ℕ → List ℕ → List ℕ
+beforeFirst b s = take (upTo b s) s
 
-abbrev pub behind : ℕ → List ℕ → List ℕ
-behind b s = drop (upTo b s + 1) s
+abbrev pub behindFirst : ℕ → List ℕ → List ℕ
+behindFirst b s = drop (upTo b s + 1) s
 
 abbrev pub same : List ℕ → List ℕ → Bool
 same [] [] = true
@@ -34,8 +34,8 @@ same (x ∷ s) [] = false
 same (x ∷ s) (y ∷ t) = eqb x y && same s t
 
 -- the bytes that part keys, values and numbers
-abbrev pub plus : ℕ
-plus = 43
+abbrev pub plusSign : ℕ
+plusSign = 43
 
 abbrev pub dash : ℕ
 dash = 45

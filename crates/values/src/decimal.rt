@@ -1,4 +1,4 @@
-// Decimals: the digits as a whole number over a power of ten, one division.
+// Decimals: whole numbers that are divided once, by a power of ten.
 ghost use mathlib.Core.Path.{_≡_};
 ghost use Prim.Native.Nat.{_^_, _≤_};
 ghost use Rattle.values.specs.Stages.{readOn, overTen};

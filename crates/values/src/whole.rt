@@ -3,6 +3,7 @@ ghost use mathlib.Core.Path.{_≡_};
 ghost use Rattle.values.specs.Whole.{parseU64Of, atMost, notZero, parseBoundedOf, parsePositiveOf};
 use crate::digits::digits_from;
 use crate::digits::without_plus;
+use numbers::MAX_EXACT;
 use numbers::REFUSED_WHOLE;
 use numbers::REFUSED_WHOLE_ABOVE;
 use numbers::REFUSED_ZERO;
@@ -12,9 +13,6 @@ pub enum Whole {
     Number(u64),
     Refused(u32),
 }
-
-// The greatest whole number that an option but the seed may have.
-const MOST: u64 = 9007199254740992;
 
 // A whole number below 2^64.
 pub fn parse_u64(v: &[u8]) -> Whole
@@ -33,7 +31,7 @@ fn at_most(w: Whole) -> Whole
 {
     match w {
         Whole::Number(n) => {
-            if n <= MOST {
+            if n <= MAX_EXACT {
                 Whole::Number(n)
             } else {
                 Whole::Refused(REFUSED_WHOLE_ABOVE)

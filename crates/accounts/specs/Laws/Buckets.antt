@@ -2,13 +2,14 @@
 use mathlib.Core.Path.{_≡_, refl, ap, _∙_}
 use mathlib.Core.Bool.{Bool, true, false, not, cond, _&&_, and-eq-true-iff}
 use mathlib.Core.List.{List, [], _∷_, map}
-use Prim.Native.Nat.{ℕ, suc, _^_, _≤_, _<_, zero-le}
+use Prim.Native.Nat.{ℕ, suc, _≤_, _<_, zero-le}
 use native.Mathlib.Nat.{le-trans}
 use native.Mathlib.Omega.{arith}
 use lib.Dec.{T, leb, leb→le, le→leb}
 use lib.ListN.{length}
 use lib.Ieee.{Float, nan, lt, le}
 use lib.Ieee.Bits.{is-true}
+use Rattle.numbers.specs.Limits.{maxExact}
 use Rattle.numbers.specs.Whole.{whole}
 use Rattle.numbers.specs.Laws.Kinds.{Number, plus-finite-number}
 use Rattle.numbers.specs.Laws.Order.{lt-is-not-le}
@@ -38,11 +39,11 @@ abbrev atMost : ℕ → List ℕ → Bool
 atMost n [] = true
 atMost n (b ∷ bs) = leb b n && atMost n bs
 
-module _ (n : ℕ) (small : n ≤ 2 ^ 53) {x : Float} (number : Number x) (high : T (le (whole n) x)) where
+module _ (n : ℕ) (small : n ≤ maxExact) {x : Float} (number : Number x) (high : T (le (whole n) x)) where
   -- a bound that is at most n is not above x
   not-above : (b : ℕ) → b ≤ n → lt x (whole b) ≡ false
   not-above b h =
-      let wide : b ≤ 2 ^ 53 = le-trans h small in
+      let wide : b ≤ maxExact = le-trans h small in
       let level = plus-finite-number (whole-bounded b wide .clear) in
       let under : T (le (whole b) (whole n)) = rw (whole-le b n wide small) (le→leb b n h) in
       lt-is-not-le level number ∙ ap not (is-true (le (whole b) x) (order-trans level (plus-finite-number (whole-bounded n small .clear)) number under high))

@@ -2,22 +2,22 @@
 use mathlib.Core.Path.{_≡_, sym, ap, _∙_}
 use mathlib.Core.Bool.{Bool, true, _&&_, and-eq-true-iff, and-true, and-assoc}
 use mathlib.Core.List.{List, [], _∷_, _++_}
-use Prim.Native.Nat.{ℕ, zero, suc, _^_, _<_}
+use Prim.Native.Nat.{ℕ, zero, suc, _<_}
 use native.Mathlib.Omega.{arith}
 use lib.Bits.{bitOr}
 use lib.ListN.{getD, drop}
-use Rattle.numbers.specs.Limits.{isCounterOf}
+use Rattle.numbers.specs.Limits.{counterLimit, isCounterOf}
 use Rattle.numbers.specs.Laws.Limits.{counter-below, counters-or}
 use Rattle.accounts.specs.Counters.{areCounters}
 use Rattle.accounts.specs.Bits.{bitsFrom}
 
-first-counter : (n : ℕ) (ns : List ℕ) → areCounters (n ∷ ns) ≡ true → n < 2 ^ 60
+first-counter : (n : ℕ) (ns : List ℕ) → areCounters (n ∷ ns) ≡ true → n < counterLimit
 first-counter n ns h = counter-below n (and-eq-true-iff (isCounterOf n) (areCounters ns) .0 h .0)
 
 other-counters : (n : ℕ) (ns : List ℕ) → areCounters (n ∷ ns) ≡ true → areCounters ns ≡ true
 other-counters n ns h = and-eq-true-iff (isCounterOf n) (areCounters ns) .0 h .1
 
-pub counter-at : (ns : List ℕ) (i : ℕ) → areCounters ns ≡ true → getD ns i 0 < 2 ^ 60
+pub counter-at : (ns : List ℕ) (i : ℕ) → areCounters ns ≡ true → getD ns i 0 < counterLimit
 counter-at [] i h = omega arith
 counter-at (n ∷ ns) zero h = first-counter n ns h
 counter-at (n ∷ ns) (suc i) h = counter-at ns i (other-counters n ns h)

@@ -1,7 +1,8 @@
 -- What refusal 25 lets through, record by record: every counter is below 2 ^ 60.
 use mathlib.Core.Path.{_≡_}
 use mathlib.Core.Bool.{true}
-use Prim.Native.Nat.{_^_, _<_}
+use Prim.Native.Nat.{_<_}
+use Rattle.numbers.specs.Limits.{counterLimit}
 use Rattle.accounts.specs.declared.accountant.SendAccountant.{SendAccountant}
 use Rattle.accounts.specs.declared.stats.DirectionStats.{DirectionStats}
 use Rattle.accounts.specs.Stats.{latenciesOf}
@@ -9,11 +10,11 @@ use Rattle.accounts.specs.Counters.{latencyCounters, accountantCounters,
 use Rattle.accounts.specs.Laws.Counters.{counter-at, later-counters}
 
 pub record SmallSends (a : SendAccountant) : Type 0 where
-  pub «sent_pkts» : a .«sent_pkts» < 2 ^ 60
-  pub «sent_bytes» : a .«sent_bytes» < 2 ^ 60
-  pub «dropped_overflow» : a .«dropped_overflow» < 2 ^ 60
-  pub «tcp_rst_kills» : a .«tcp_rst_kills» < 2 ^ 60
-  pub «nat_rebinds» : a .«nat_rebinds» < 2 ^ 60
+  pub «sent_pkts» : a .«sent_pkts» < counterLimit
+  pub «sent_bytes» : a .«sent_bytes» < counterLimit
+  pub «dropped_overflow» : a .«dropped_overflow» < counterLimit
+  pub «tcp_rst_kills» : a .«tcp_rst_kills» < counterLimit
+  pub «nat_rebinds» : a .«nat_rebinds» < counterLimit
   pub latencies : areCounters (latencyCounters (a .latency)) ≡ true
 
 pub small-sends : (a : SendAccountant) → areCounters (accountantCounters a) ≡ true → SmallSends a
@@ -29,20 +30,20 @@ small-sends a h =
     }
 
 pub record SmallStats (s : DirectionStats) : Type 0 where
-  pub «received_pkts» : s .«received_pkts» < 2 ^ 60
-  pub «received_bytes» : s .«received_bytes» < 2 ^ 60
-  pub «sent_pkts» : s .«sent_pkts» < 2 ^ 60
-  pub «sent_bytes» : s .«sent_bytes» < 2 ^ 60
-  pub «dropped_random» : s .«dropped_random» < 2 ^ 60
-  pub «dropped_ge» : s .«dropped_ge» < 2 ^ 60
-  pub «dropped_mtu» : s .«dropped_mtu» < 2 ^ 60
-  pub «dropped_blackout» : s .«dropped_blackout» < 2 ^ 60
-  pub «dropped_overflow» : s .«dropped_overflow» < 2 ^ 60
-  pub duplicates : s .duplicates < 2 ^ 60
-  pub «reorder_hits» : s .«reorder_hits» < 2 ^ 60
-  pub «rate_deferred» : s .«rate_deferred» < 2 ^ 60
-  pub «nat_rebinds» : s .«nat_rebinds» < 2 ^ 60
-  pub «tcp_rst_kills» : s .«tcp_rst_kills» < 2 ^ 60
+  pub «received_pkts» : s .«received_pkts» < counterLimit
+  pub «received_bytes» : s .«received_bytes» < counterLimit
+  pub «sent_pkts» : s .«sent_pkts» < counterLimit
+  pub «sent_bytes» : s .«sent_bytes» < counterLimit
+  pub «dropped_random» : s .«dropped_random» < counterLimit
+  pub «dropped_ge» : s .«dropped_ge» < counterLimit
+  pub «dropped_mtu» : s .«dropped_mtu» < counterLimit
+  pub «dropped_blackout» : s .«dropped_blackout» < counterLimit
+  pub «dropped_overflow» : s .«dropped_overflow» < counterLimit
+  pub duplicates : s .duplicates < counterLimit
+  pub «reorder_hits» : s .«reorder_hits» < counterLimit
+  pub «rate_deferred» : s .«rate_deferred» < counterLimit
+  pub «nat_rebinds» : s .«nat_rebinds» < counterLimit
+  pub «tcp_rst_kills» : s .«tcp_rst_kills» < counterLimit
   pub latencies : areCounters (latencyCounters (latenciesOf s)) ≡ true
 
 pub small-stats : (s : DirectionStats) → areCounters (statsCounters s) ≡ true → SmallStats s

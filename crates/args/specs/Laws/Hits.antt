@@ -10,11 +10,11 @@ use Rattle.args.specs.declared.cursor.Arg.the-variants.{End, Refused, Fl
 use Rattle.args.specs.declared.cursor.Step.{Step}
 use Rattle.args.specs.declared.cursor.Found.{Found}
 use Rattle.args.specs.declared.cursor.Found.the-variants.{At, Nothing}
-use Rattle.args.specs.Places.{nextOf, goesOn, stepsOf, hitAt, hitIn, hitOf, lastAt, lastIn}
+use Rattle.args.specs.Places.{nextOf, hasNext, stepsOf, hitAt, hitIn, hitOf, lastAt, lastIn}
 use Rattle.args.specs.Laws.Steps.{Later, along, steps}
 
 module _ (s k : List ℕ) where
-  hit-later : (at : ℕ) (r : Step) (a : Arg) → hitAt s k r a (hitIn s k (cond (goesOn a) (stepsOf s at) [])) ≡ hitAt s k r a (hitOf s k at)
+  hit-later : (at : ℕ) (r : Step) (a : Arg) → hitAt s k r a (hitIn s k (cond (hasNext a) (stepsOf s at) [])) ≡ hitAt s k r a (hitOf s k at)
   unfolding hitOf
   hit-later at r End = refl
   hit-later at r (Refused n) = refl
@@ -36,10 +36,10 @@ module _ (s k : List ℕ) where
   lastBehind f (At v l) at = lastFromPlace (At v l) at
 
   -- the step says from which place on, and behind which place, the last one is looked for
-  pub last-turn : (f : Found) (at : ℕ) → lastFromPlace f at ≡ cond (goesOn (nextOf s at .arg)) (lastFromPlace (lastAt s k (nextOf s at .arg) f) (nextOf s at .cursor .at)) f
+  pub last-turn : (f : Found) (at : ℕ) → lastFromPlace f at ≡ cond (hasNext (nextOf s at .arg)) (lastFromPlace (lastAt s k (nextOf s at .arg) f) (nextOf s at .cursor .at)) f
   last-turn f at = rw (steps s at) (on (nextOf s at .arg) (nextOf s at .cursor .at))
     where
-      on : (a : Arg) (next : ℕ) → lastIn s k (lastAt s k a f) (cond (goesOn a) (stepsOf s next) []) ≡ cond (goesOn a) (lastFromPlace (lastAt s k a f) next) f
+      on : (a : Arg) (next : ℕ) → lastIn s k (lastAt s k a f) (cond (hasNext a) (stepsOf s next) []) ≡ cond (hasNext a) (lastFromPlace (lastAt s k a f) next) f
       on End next = refl
       on (Refused n) next = refl
       on Flag next = refl
@@ -51,8 +51,8 @@ module _ (s k : List ℕ) where
   behind-turn : (at : ℕ) → Later s Behind at → Behind at
   behind-turn at ih f = rw (last-turn f at, hit-turn at (nextOf s at) refl) (on (nextOf s at .arg) (nextOf s at) ih)
     where
-      on : (a : Arg) (r : Step) → (goesOn a ≡ true → Behind (r .cursor .at))
-          → cond (goesOn a) (lastFromPlace (lastAt s k a f) (r .cursor .at)) f ≡ lastBehind f (hitAt s k r a (hitOf s k (r .cursor .at)) .found) (hitAt s k r a (hitOf s k (r .cursor .at)) .cursor .at)
+      on : (a : Arg) (r : Step) → (hasNext a ≡ true → Behind (r .cursor .at))
+          → cond (hasNext a) (lastFromPlace (lastAt s k a f) (r .cursor .at)) f ≡ lastBehind f (hitAt s k r a (hitOf s k (r .cursor .at)) .found) (hitAt s k r a (hitOf s k (r .cursor .at)) .cursor .at)
       on End r ih = refl
       on (Refused n) r ih = refl
       on Flag r ih = ih refl f

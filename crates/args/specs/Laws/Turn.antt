@@ -7,13 +7,13 @@ use native.Mathlib.Omega.{arith}
 use borrow.Author.Tests.{ltb-true}
 use lib.ListN.{length, take, drop, length-take, length-drop}
 use lib.Seq.{take-take, drop-drop}
-use Rattle.values.specs.Bytes.{bytes, upTo, has, behind, same, equals}
+use Rattle.values.specs.Bytes.{bytes, upTo, has, behindFirst, same, equals}
 use Rattle.values.specs.Laws.Scan.{up-to-le}
 use Rattle.args.specs.declared.cursor.Arg.{Arg}
 use Rattle.args.specs.declared.cursor.Arg.the-variants.{End, Refused, Flag, Pair}
 use Rattle.args.specs.declared.cursor.Step.{Step}
 use Rattle.args.specs.Arguments.{argumentsOf, dashes, dashed, Gathered, stop, also, flag, pair, none, gather, gathered}
-use Rattle.args.specs.Places.{nextOf, keyedOf, valuedOf, goesOn}
+use Rattle.args.specs.Places.{nextOf, keyedOf, valuedOf, hasNext}
 use Rattle.args.specs.Laws.Arguments.{no-argument, first-argument}
 use Rattle.args.specs.Laws.Parts.{part-len, drop-take}
 
@@ -27,8 +27,8 @@ onward s (Pair k n v l) g = also (pair (take n (drop k s)) (take l (drop v s))) 
 -- what the step r from the place at says of the text s
 pub record Turn (s : List ℕ) (at : ℕ) (r : Step) : Type 0 where
   pub same : gathered (drop at s) ≡ onward s (r .arg) (gathered (drop (r .cursor .at) s))
-  pub further : goesOn (r .arg) ≡ true → at < r .cursor .at
-  pub within : goesOn (r .arg) ≡ true → r .cursor .at ≤ length s
+  pub further : hasNext (r .arg) ≡ true → at < r .cursor .at
+  pub within : hasNext (r .arg) ≡ true → r .cursor .at ≤ length s
 
 -- a step that stays goes no further
 pub never : {X : Type 0} → false ≡ true → X
@@ -78,7 +78,7 @@ module _ (s : List ℕ) (at : ℕ) where
       let h : q ≤ n = omega (arith, up-to-le equals a, length-take n rest) in
       rw (take-take q n rest h, ← (drop-drop (dashes (take q rest)) at s)) (part-len (dashes (take q rest)) q rest)
 
-  value-part : take (n - (q + 1)) (drop (at + (q + 1)) s) ≡ behind equals a
+  value-part : take (n - (q + 1)) (drop (at + (q + 1)) s) ≡ behindFirst equals a
   value-part = rw (← (drop-drop (q + 1) at s)) (sym (drop-take (q + 1) n rest))
 
   cases : (t u v w x : Bool) → has 0 rest ≡ t → dashed a ≡ u → has equals a ≡ v → same key (bytes "verbose") ≡ w → has 0 more ≡ x → Turn s at (nextOf s at)

@@ -13,7 +13,7 @@ use Rattle.args.specs.declared.cursor.Found.{Found}
 use Rattle.args.specs.declared.cursor.Found.the-variants.{At, Nothing}
 use Rattle.args.specs.declared.cursor.Hit.{Hit}
 use Rattle.args.specs.Arguments.{Gathered, gathered, valuesIn, valuesOf, Value, absent, given, lastFrom, lastValueOf}
-use Rattle.args.specs.Places.{nextOf, goesOn, hitAt, hitOf, lastAt, lastOf}
+use Rattle.args.specs.Places.{nextOf, hasNext, hitAt, hitOf, lastAt, lastOf}
 use Rattle.args.specs.Laws.Turn.{onward, turn-of, never}
 use Rattle.args.specs.Laws.Steps.{Later, along}
 use Rattle.args.specs.Laws.Hits.{hit-turn, lastFromPlace, last-turn}
@@ -64,8 +64,8 @@ module _ (s k : List ℕ) where
   hits-turn : (at : ℕ) → Later s HitsFrom at → HitsFrom at
   hits-turn at ih = rw (hit-turn s k at (nextOf s at) refl) (on (nextOf s at) (nextOf s at .arg) (values-turn at) (turn-of s at (nextOf s at) refl .further) (turn-of s at (nextOf s at) refl .within) ih)
     where
-      on : (r : Step) (a : Arg) → valuesOf k (drop at s) ≡ seen a (valuesOf k (drop (r .cursor .at) s)) → (goesOn a ≡ true → at < r .cursor .at) → (goesOn a ≡ true → r .cursor .at ≤ length s)
-          → (goesOn a ≡ true → HitsFrom (r .cursor .at)) → Hits s k at (hitAt s k r a (hitOf s k (r .cursor .at)))
+      on : (r : Step) (a : Arg) → valuesOf k (drop at s) ≡ seen a (valuesOf k (drop (r .cursor .at) s)) → (hasNext a ≡ true → at < r .cursor .at) → (hasNext a ≡ true → r .cursor .at ≤ length s)
+          → (hasNext a ≡ true → HitsFrom (r .cursor .at)) → Hits s k at (hitAt s k r a (hitOf s k (r .cursor .at)))
       on r End e f w ih = record { same = e; further = never; within = never }
       on r (Refused n) e f w ih = record { same = e; further = never; within = never }
       on r Flag e f w ih = record { same = e ∙ ih refl .same; further = λ h. omega (arith, f refl, ih refl .further h); within = ih refl .within }
@@ -94,8 +94,8 @@ module _ (s k : List ℕ) where
   lasts-turn : (at : ℕ) → Later s Lasts at → Lasts at
   lasts-turn at ih f = rw (last-turn s k f at, values-turn at) (on (nextOf s at .arg) (nextOf s at .cursor .at) ih)
     where
-      on : (a : Arg) (next : ℕ) → (goesOn a ≡ true → Lasts next)
-          → foundIn s (cond (goesOn a) (lastFromPlace s k (lastAt s k a f) next) f) ≡ lastFrom (foundIn s f) (seen a (valuesOf k (drop next s)))
+      on : (a : Arg) (next : ℕ) → (hasNext a ≡ true → Lasts next)
+          → foundIn s (cond (hasNext a) (lastFromPlace s k (lastAt s k a f) next) f) ≡ lastFrom (foundIn s f) (seen a (valuesOf k (drop next s)))
       on End next ih = refl
       on (Refused n) next ih = refl
       on Flag next ih = ih refl f

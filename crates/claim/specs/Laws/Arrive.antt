@@ -16,8 +16,10 @@ use Rattle.numbers.specs.Limits.{isLengthOf, isCounterOf}
 use Rattle.steps.specs.Laws.Sound.{DueFrom}
 use Rattle.steps.specs.declared.decision.Decision.{Decision}
 use Rattle.steps.specs.declared.decision.Decision.the-variants.{DropRandom, DropGe, DropMtu, DropBlackout, DropKillHold, Enqueue, KillRst}
-use Rattle.engine.specs.Decide.{decideUncheckedOf}
-use Rattle.engine.specs.Laws.Sound.{SoundEngine, unchecked-sound}
+use Rattle.accounts.specs.Accountant.{resetsOf}
+use Rattle.engine.specs.Changes.{overflowedOf}
+use Rattle.engine.specs.Decide.{decidePassedOf}
+use Rattle.engine.specs.Laws.Sound.{SoundEngine, passed-sound}
 use Rattle.engine.specs.declared.answers.Arrived.{Arrived as Decided}
 use Rattle.engine.specs.declared.engine.ArrivalEngine.{ArrivalEngine}
 use Rattle.queue.specs.Calls.{drainOf}
@@ -32,11 +34,11 @@ use Rattle.queue_laws.specs.Laws.Keeps.{Keeps}
 use Rattle.queue_laws.specs.Replies.{saidOfDrain}
 use Rattle.machine.specs.Calls.{arrive, decided}
 use Rattle.machine.specs.Machine.{Machine}
-use Rattle.machine.specs.Steps.{Step, stepTo, Entry, withEngine, enterCopies, resetOf, tear, withAccounts, follow, arriveStep, step}
+use Rattle.machine.specs.Steps.{Step, stepTo, Entry, withEngine, enterCopies, tear, withAccounts, follow, arriveStep, step}
 use Rattle.admission.specs.Admitted.{untouched, tornBy, tornOf}
 use Rattle.admission.specs.Follow.{followOf}
 use Rattle.admission.specs.declared.admitted.Admitted.{Admitted}
-use Rattle.device.specs.Arrive.{overflowsOf, resetsOf, answerOf, settledOf, notArrived, settledIn, arriveOf}
+use Rattle.device.specs.Arrive.{answerOf, settledOf, notArrived, settledIn, arriveOf}
 use Rattle.device.specs.declared.answers.ArriveAnswer.the-variants as answer
 use Rattle.device.specs.declared.answers.Arrived.{Arrived}
 use Rattle.device.specs.declared.device.Device.{Device}
@@ -44,7 +46,7 @@ use Rattle.claim.specs.Replies.{saidOfArrive}
 use Rattle.claim.specs.Laws.Matches.{Matches, AllShort}
 use Rattle.claim.specs.Laws.Agree.{Agrees, queueOf, deviceOf, of-device, parts-match, Passed, by-refusal, drains-all}
 use Rattle.claim.specs.Laws.Copies.{Entering, Pushable, copies-enter}
-use Rattle.claim.specs.Laws.Counts.{overflows-none, resets-none, resets-one}
+use Rattle.claim.specs.Laws.Counts.{overflows-none, resets-none}
 
 -- an arrival that agrees with a step
 abbrev pub ArriveAgrees : After Arrived → Step → Type 0
@@ -58,7 +60,7 @@ record Follows (m : Machine) (f : After Admitted) (entered overflowed torn : ℕ
   enters : f .gives .entered ≡ entered
   overflows : f .gives .overflowed ≡ overflowed
   tears : f .gives .torn ≡ torn
-  engine : overflowsOf (m .engine) (f .gives .overflowed) ≡ n .engine
+  engine : overflowedOf (m .engine) (f .gives .overflowed) ≡ n .engine
   accounts : resetsOf (m .accounts) (f .gives .resets) ≡ n .accounts
   all-torn : m .torn + f .gives .torn ≡ n .torn
   queue : Keeps slotWidth (f .memory) (f .gives .queue) (queueOf n)
@@ -97,7 +99,7 @@ module _ (m : Machine) (q : ImpairQueue) (t : Tables) (keeps : Keeps slotWidth t
 
   -- a reset is counted, and all held copies go to torn
   reset-by : (a : DrainAnswer) (r : ImpairQueue) → saidOfDrain a ≡ drained (length (m .held)) → Keeps slotWidth t r (plain (m .cap) [] (m .nextSeq))
-      → Follows m (after (tornBy a r) t) 0 0 (length (m .held)) (tear (withAccounts m (resetOf (m .accounts))))
+      → Follows m (after (tornBy a r) t) 0 0 (length (m .held)) (tear (withAccounts m (resetsOf (m .accounts) 1)))
   unfolding tornBy
   reset-by (drain.Drained n) r says empty =
       let same : n ≡ length (m .held) = cc in
@@ -107,7 +109,7 @@ module _ (m : Machine) (q : ImpairQueue) (t : Tables) (keeps : Keeps slotWidth t
         overflows = refl;
         tears = same;
         engine = overflows-none (m .engine);
-        accounts = resets-one (m .accounts);
+        accounts = refl;
         all-torn = ap (λ (x : ℕ). m .torn + x) same;
         queue = empty;
         sound = sound;
@@ -115,7 +117,7 @@ module _ (m : Machine) (q : ImpairQueue) (t : Tables) (keeps : Keeps slotWidth t
       }
   reset-by (drain.Refused k) r says empty = let z : _≡_ {A = ℕ} 0 1 = cc in absurd (omega arith)
 
-  reset : isCounterOf (m .nextSeq) ≡ true → Follows m (after (tornOf q) t) 0 0 (length (m .held)) (tear (withAccounts m (resetOf (m .accounts))))
+  reset : isCounterOf (m .nextSeq) ≡ true → Follows m (after (tornOf q) t) 0 0 (length (m .held)) (tear (withAccounts m (resetsOf (m .accounts) 1)))
   unfolding tornOf
   reset next = let a = drains-all m q t keeps next in reset-by (drainOf q .answer) (drainOf q .queue) (a .says) (a .keeps)
 
@@ -166,12 +168,12 @@ module _ (m : Machine) (q : ImpairQueue) (t : Tables) (keeps : Keeps slotWidth t
 
   module _ (sound : SoundEngine (m .engine)) (fit : T (fits binary64 now)) where
     abbrev decision : Decided
-    decision = decideUncheckedOf (m .engine) now (length bytes)
+    decision = decidePassedOf (m .engine) now (length bytes)
 
     decides : Passed m (isInstantOf now) (isLengthOf (length bytes))
         → ArriveAgrees (settledIn (deviceOf m q) decision (followOf slotWidth q t (decision .decision) now route bytes)) (follow (withEngine m (decision .engine)) (decision .decision) now bytes route)
     decides p =
-        let still = unchecked-sound (m .engine) now (length bytes) sound (record { fit = fit; bounded = instant-bounded now (p .instant-passes); short = omega (arith, length-within (length bytes) (p .length-passes)) }) in
+        let still = passed-sound (m .engine) now (length bytes) sound (record { fit = fit; bounded = instant-bounded now (p .instant-passes); short = omega (arith, length-within (length bytes) (p .length-passes)) }) in
         followed p (decision .engine) (still .0) (decision .decision) (still .1)
 
     arrive-parts : ArriveAgrees (arriveOf slotWidth (deviceOf m q) t now bytes route) (step m (arrive now bytes route))

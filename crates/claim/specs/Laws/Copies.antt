@@ -14,7 +14,8 @@ use Rattle.numbers.specs.Laws.NotNan.{cond-has}
 use Rattle.numbers.specs.Limits.{maxLength, isCounterOf}
 use Rattle.numbers.specs.Refusals.{refusedFull}
 use Rattle.engine.specs.Changes.{overflowedOf}
-use Rattle.engine.specs.Laws.Sound.{SoundEngine}
+use Rattle.engine.specs.declared.engine.ArrivalEngine.{ArrivalEngine}
+use Rattle.engine.specs.Laws.Sound.{SoundEngine, overflowed-sound}
 use Rattle.held.specs.Copies.{copy}
 use Rattle.queue.specs.Calls.{pushOf, pushAgainOf}
 use Rattle.queue.specs.Refusals.{slotWidth}
@@ -32,10 +33,9 @@ use Rattle.machine.specs.Steps.{Entry, entry, withEngine, withCopy, enterCopy, 
 use Rattle.admission.specs.Admitted.{untouched, talliedBy}
 use Rattle.admission.specs.Copies.{counted, firstOf, secondOf, copiesOf}
 use Rattle.admission.specs.declared.admitted.Admitted.{Admitted}
-use Rattle.device.specs.Arrive.{overflowsOf}
 use Rattle.claim.specs.Laws.Matches.{AllShort}
 use Rattle.claim.specs.Laws.Agree.{queueOf}
-use Rattle.claim.specs.Laws.Counts.{overflows-none, overflows-more, overflowed-sound}
+use Rattle.claim.specs.Laws.Counts.{overflows-none, overflows-more}
 use Rattle.claim.specs.Laws.Short.{short-last}
 
 -- what was admitted so far, and the machine m with the copies that entered so far
@@ -45,7 +45,7 @@ pub record Entering (m : Machine) (f : After Admitted) (n : Entry) : Type 0 wher
   pub overflowed : f .gives .overflowed ≡ n .overflowed
   pub torn : f .gives .torn ≡ 0
   pub resets : f .gives .resets ≡ 0
-  pub engine : overflowsOf (m .engine) (f .gives .overflowed) ≡ n .then .engine
+  pub engine : overflowedOf (m .engine) (f .gives .overflowed) ≡ n .then .engine
   pub same-accounts : n .then .accounts ≡ m .accounts
   pub same-torn : n .then .torn ≡ m .torn
   pub queue : Keeps slotWidth (f .memory) (f .gives .queue) (queueOf (n .then))
@@ -69,7 +69,7 @@ module _ (due now : Float) (route : ℕ) (bytes : List ℕ) (id : ℕ) where
   module _ (m : Machine) (f : After Admitted) (n : Entry) (h : Entering m f n) where
     -- the queue is full
     turned-away : (a : PushAnswer) (q : ImpairQueue) (t : Tables) → saidOfPush a ≡ refused refusedFull → Keeps slotWidth t q (queueOf (n .then))
-        → Entering m (after (talliedBy a q (f .gives .entered) (f .gives .overflowed)) t) (entry (withEngine (n .then) (overflowedOf (n .then .engine))) (n .entered) (n .overflowed + 1))
+        → Entering m (after (talliedBy a q (f .gives .entered) (f .gives .overflowed)) t) (entry (withEngine (n .then) (overflowedOf (n .then .engine) 1)) (n .entered) (n .overflowed + 1))
     unfolding talliedBy
     turned-away (push.Entered slot seq) q t says keeps = let z : _≡_ {A = ℕ} 0 1 = cc in absurd (omega arith)
     turned-away (push.Refused k) q t says keeps =
@@ -81,11 +81,11 @@ module _ (due now : Float) (route : ℕ) (bytes : List ℕ) (id : ℕ) where
           overflowed = ap (λ (x : ℕ). x + 1) (h .overflowed);
           torn = refl;
           resets = refl;
-          engine = overflows-more (m .engine) (f .gives .overflowed) ∙ ap overflowedOf (h .engine);
+          engine = overflows-more (m .engine) (f .gives .overflowed) ∙ ap (λ (e : ArrivalEngine). overflowedOf e 1) (h .engine);
           same-accounts = h .same-accounts;
           same-torn = h .same-torn;
           queue = keeps;
-          sound = overflowed-sound (n .then .engine) (h .sound);
+          sound = overflowed-sound (n .then .engine) 1 (h .sound);
           short = h .short;
         })
 

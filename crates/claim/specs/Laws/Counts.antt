@@ -1,44 +1,22 @@
 -- What a device counts at once after an arrival, the machine counts one by one.
-use mathlib.Core.Path.{_≡_, refl}
+use mathlib.Core.Path.{_≡_}
 use Prim.Native.Nat.{ℕ, _+_}
 use native.Mathlib.Nat.{add-zero}
 use native.Mathlib.Omega.{arith}
+use Rattle.accounts.specs.Accountant.{resetsOf}
 use Rattle.accounts.specs.declared.accountant.SendAccountant.{SendAccountant}
-use Rattle.engine.specs.Changes.{withOthers, overflowedOf}
-use Rattle.engine.specs.Engine.{stateOf}
-use Rattle.engine.specs.Laws.Sound.{SoundEngine}
+use Rattle.engine.specs.Changes.{withOthers, withOverflow, overflowedOf}
 use Rattle.engine.specs.declared.engine.ArrivalEngine.{ArrivalEngine}
-use Rattle.machine.specs.Steps.{resetOf}
-use Rattle.device.specs.Arrive.{overflowsOf, resetsOf}
 
--- the engine with this number of copies that a full queue turned away
-abbrev withOverflow : ArrivalEngine → ℕ → ArrivalEngine
-withOverflow e n =
-    record {
-      cfg = e .cfg;
-      rng = e .rng;
-      «ge_bad» = e .«ge_bad»;
-      tokens = e .tokens;
-      «last_refill_ms» = e .«last_refill_ms»;
-      «next_rebind_ms» = e .«next_rebind_ms»;
-      «rebinds_done» = e .«rebinds_done»;
-      stats = withOthers (e .stats) n (e .stats .«nat_rebinds»);
-    }
-
-pub overflows-none : (e : ArrivalEngine) → overflowsOf e 0 ≡ e
-unfolding overflowsOf withOthers
+pub overflows-none : (e : ArrivalEngine) → overflowedOf e 0 ≡ e
+unfolding withOverflow withOthers
 overflows-none e i = withOverflow e (add-zero (e .stats .«dropped_overflow») i)
 
-pub overflows-more : (e : ArrivalEngine) (n : ℕ) → overflowsOf e (n + 1) ≡ overflowedOf (overflowsOf e n)
-unfolding overflowsOf overflowedOf withOthers
+pub overflows-more : (e : ArrivalEngine) (n : ℕ) → overflowedOf e (n + 1) ≡ overflowedOf (overflowedOf e n) 1
+unfolding withOverflow withOthers
 overflows-more e n i =
     let regroup : e .stats .«dropped_overflow» + (n + 1) ≡ e .stats .«dropped_overflow» + n + 1 = omega arith in
     withOverflow e (regroup i)
-
--- the counter of overflow is no part of what keeps an engine sound
-pub overflowed-sound : (e : ArrivalEngine) → SoundEngine e → SoundEngine (overflowedOf e)
-unfolding overflowedOf stateOf
-overflowed-sound e s = record { settings = s .settings; state = s .state }
 
 pub resets-none : (a : SendAccountant) → resetsOf a 0 ≡ a
 unfolding resetsOf
@@ -51,7 +29,3 @@ resets-none a i =
       «nat_rebinds» = a .«nat_rebinds»;
       latency = a .latency;
     }
-
-pub resets-one : (a : SendAccountant) → resetsOf a 1 ≡ resetOf a
-unfolding resetsOf resetOf
-resets-one a = refl

@@ -11,10 +11,10 @@ use Rattle.numbers.specs.Laws.NotNan.{cond-has}
 use Rattle.numbers.specs.Limits.{maxCapacity}
 use Rattle.numbers.specs.Refusals.{refusedMemory, refusedCapacity, refusedSettings}
 use Rattle.options.specs.Config.{defaultDirection}
-use Rattle.options.specs.Judgement.{isSettingsOf}
-use Rattle.options.specs.Laws.Judgement.{default-judged}
+use Rattle.judgement.specs.Settings.{isSettingsOf}
+use Rattle.judgement.specs.Laws.Parsed.{default-judged}
 use Rattle.options.specs.declared.config.DirectionConfig.{DirectionConfig}
-use Rattle.engine.specs.Calls.{newOf}
+use Rattle.engine.specs.Calls.{newEngineOf}
 use Rattle.engine.specs.Engine.{freshOf}
 use Rattle.engine.specs.Laws.Sound.{fresh-sound}
 use Rattle.engine.specs.declared.answers.Changed.{Changed}
@@ -52,7 +52,7 @@ module _ (cfg : DirectionConfig) (seed salt cap : ℕ) (t : Tables) where
 
   -- a creation that was not refused
   pub create-matches : createOf slotWidth cfg seed salt cap t .answer ≡ answer.Created → Matches (createOf slotWidth cfg seed salt cap t .device) t (freshMachine (hostCreation cfg seed salt cap))
-  unfolding createOf createdBy newOf
+  unfolding createOf createdBy newEngineOf
   create-matches = go (isSettingsOf cfg) refl
     where
       go : (b : Bool) → isSettingsOf cfg ≡ b → Fresh (createOf slotWidth cfg seed salt cap t)
@@ -61,7 +61,7 @@ module _ (cfg : DirectionConfig) (seed salt cap : ℕ) (t : Tables) where
 
   -- a creation with settings that 29 lets through, a capacity in range and memory that is long enough is not refused
   pub create-made : isSettingsOf cfg ≡ true → 0 < cap → cap ≤ maxCapacity → Long slotWidth cap t → createOf slotWidth cfg seed salt cap t .answer ≡ answer.Created
-  unfolding createOf createdBy newOf queuedBy
+  unfolding createOf createdBy newEngineOf queuedBy
   create-made settings low high long = rw (settings, queue-made slotWidth cap t low high long)
 
   -- ---- what a creation ends in
@@ -71,7 +71,7 @@ module _ (cfg : DirectionConfig) (seed salt cap : ℕ) (t : Tables) where
   refused-ends k r = inr (k, r, refl)
 
   pub create-ends : CreationEnds (hostCreation cfg seed salt cap) (createOf slotWidth cfg seed salt cap t)
-  unfolding createOf createdBy newOf queuedBy queueCreateOf
+  unfolding createOf createdBy newEngineOf queuedBy queueCreateOf
   create-ends =
       let e = freshOf cfg (directionSeedOf seed salt) in
       cond-has (λ (c : Changed). Ends (createdBy (c .outcome) (c .engine) (queueCreateOf slotWidth cap t))) (isSettingsOf cfg)

@@ -14,14 +14,14 @@ use Rattle.queue.specs.Tables.{Tables, tables, after, Rows, rowsOf}
 use Rattle.queue.specs.declared.answers.ReleaseAnswer.{ReleaseAnswer}
 use Rattle.queue.specs.declared.answers.ReleaseAnswer.the-variants as left
 use Rattle.queue_laws.specs.Lent.{Lent}
-use Rattle.machine.specs.Calls.{Call, arrive, release, rebind, teardown, report, Answer}
+use Rattle.machine.specs.Calls.{Call, arrive, release, rebind, teardown, report, Answer, Binary64Call, Binary64}
 use Rattle.device.specs.Arrive.{arriveOf}
 use Rattle.device.specs.Creation.{createOf}
 use Rattle.device.specs.Others.{rebindOf, teardownOf, reportOf}
 use Rattle.device.specs.Release.{releaseOf}
 use Rattle.device.specs.declared.device.Device.{Device}
 use Rattle.claim.specs.Replies.{saidOfRelease}
-use Rattle.claim.specs.Runs.{Parses, Creates, Arrives, Releases, Rebinds, TearsDown, Reports, Reads, Says, hands-out, none, refuses, Answered, arrives, releases, rebinds, tearsDown, reports, Ran, done, next, Binary64Call, Binary64}
+use Rattle.claim.specs.Runs.{Parses, Creates, Arrives, Releases, Rebinds, TearsDown, Reports, Reads, Says, hands-out, none, refuses, Answered, arrives, releases, rebinds, tearsDown, reports, Ran, done, next}
 use Rattle.claim.specs.Laws.Answers.{answerTo, answersTo}
 use Rattle.claim.specs.Laws.Lent.{arrive-free, release-rows}
 

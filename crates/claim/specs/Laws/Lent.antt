@@ -10,7 +10,7 @@ use Rattle.numbers.specs.Laws.NotNan.{cond-has}
 use Rattle.numbers.specs.Whole.{whole}
 use Rattle.steps.specs.declared.decision.Decision.{Decision}
 use Rattle.steps.specs.declared.decision.Decision.the-variants.{DropRandom, DropGe, DropMtu, DropBlackout, DropKillHold, Enqueue, KillRst}
-use Rattle.engine.specs.Decide.{decideUncheckedOf}
+use Rattle.engine.specs.Decide.{decidePassedOf}
 use Rattle.tournament.specs.Calls.{fitsOf, leastOf}
 use Rattle.queue.specs.Calls.{nextSlot, enteredOf, pushIf, pushOf, pushAgainOf, leftOf, dueOf, releaseOf as queueReleaseOf}
 use Rattle.queue.specs.Refusals.{slotWidth, memoryOf, pushRefusal, releaseRefusal as queueRefusal}
@@ -55,7 +55,7 @@ pub arrive-free : (v : Device) (t : Tables) (now : Float) (bytes : List ℕ) (ro
 unfolding arriveOf
 arrive-free v t now bytes route =
     cond-has (λ (o : After Arrived). o .memory .free ≡ t .free) (eqb (arriveRefusal slotWidth v t now (length bytes)) 0)
-    (follow-free (v .queue) t (decideUncheckedOf (v .engine) now (length bytes) .decision) now route bytes)
+    (follow-free (v .queue) t (decidePassedOf (v .engine) now (length bytes) .decision) now route bytes)
     refl
 
 -- ---- a release

@@ -6,6 +6,7 @@ use Prim.Native.Nat.{ℕ}
 use native.Mathlib.Omega.{arith}
 use lib.Ieee.{Float, le}
 use lib.ListN.{length}
+use Rattle.numbers.specs.Checks.{firstFailing}
 use Rattle.numbers.specs.Instant.{isInstantOf}
 use Rattle.numbers.specs.Laws.Both.{both, both-true}
 use Rattle.numbers.specs.Limits.{isCounterOf}
@@ -13,12 +14,11 @@ use Rattle.accounts.specs.Accountant.{mergedOf}
 use Rattle.accounts.specs.Counters.{areCounters, statsCounters}
 use Rattle.accounts.specs.Laws.Calls.{merge-done}
 use Rattle.accounts.specs.declared.answers.Outcome.the-variants as outcome
-use Rattle.options.specs.Judgement.{isSettingsOf}
+use Rattle.judgement.specs.Settings.{isSettingsOf}
 use Rattle.engine.specs.Calls.{shouldRebindNowOf}
 use Rattle.engine.specs.Changes.{reboundOf}
-use Rattle.engine.specs.Engine.{stateOf}
-use Rattle.engine.specs.Laws.Sound.{SoundEngine}
-use Rattle.engine.specs.Refusals.{refusalOf, judgedOf, countersPass}
+use Rattle.engine.specs.Laws.Sound.{SoundEngine, rebound-sound}
+use Rattle.engine.specs.Refusals.{judgedGivenOf, judgedOf, countersPass}
 use Rattle.engine.specs.declared.answers.BoolAnswer.the-variants as said
 use Rattle.engine.specs.declared.answers.Rebound.{Rebound as EngineRebound}
 use Rattle.engine.specs.declared.engine.ArrivalEngine.{ArrivalEngine}
@@ -53,16 +53,12 @@ byTime e b = cond b (record { engine = reboundOf e; answer = said.Said true }) (
 
 -- the engine refuses nothing that the device let through
 judges : (e : ArrivalEngine) (instant : Bool) → isSettingsOf (e .cfg) ≡ true → instant ≡ true → countersPass e ≡ true → judgedOf e instant true ≡ 0
-unfolding judgedOf refusalOf
+unfolding judgedGivenOf firstFailing
 judges e instant settings now counters = rw (settings, now, counters)
 
 rebinds : (e : ArrivalEngine) (now : Float) → judgedOf e (isInstantOf now) true ≡ 0 → shouldRebindNowOf e now ≡ byTime e (le (e .«next_rebind_ms») now)
 unfolding shouldRebindNowOf
 rebinds e now h = rw h
-
-sound-rebound : (e : ArrivalEngine) → SoundEngine e → SoundEngine (reboundOf e)
-unfolding reboundOf stateOf
-sound-rebound e s = record { settings = s .settings; state = s .state }
 
 -- ---- teardown and report
 
@@ -79,7 +75,7 @@ module _ (m : Machine) (q : ImpairQueue) (t : Tables) (keeps : Keeps slotWidth t
       → RebindAgrees t (reboundBy (byTime (m .engine) b .answer) (deviceOf (withEngine m (byTime (m .engine) b .engine)) q))
       (cond b (stepTo (rebound true) (withEngine m (reboundOf (m .engine)))) (stepTo (rebound false) m))
   unfolding reboundBy
-  by-time true = record { says = refl; matches = parts-match (withEngine m (reboundOf (m .engine))) q t keeps (sound-rebound (m .engine) sound) short }
+  by-time true = record { says = refl; matches = parts-match (withEngine m (reboundOf (m .engine))) q t keeps (rebound-sound (m .engine) sound) short }
   by-time false = record { says = refl; matches = matching }
 
   rebind-parts : (now : Float) → RebindAgrees t (rebindOf (deviceOf m q) now) (step m (rebind now))

@@ -12,7 +12,7 @@ use Rattle.queue.specs.Tables.{Tables, After, after}
 use Rattle.queue.specs.Refusals.{slotWidth}
 use Rattle.queue.specs.Calls.{payloadOf}
 use Rattle.queue.specs.declared.answers.ReleaseAnswer.{ReleaseAnswer}
-use Rattle.machine.specs.Calls.{Call, Answer, released}
+use Rattle.machine.specs.Calls.{Call, Answer, released, Binary64Call, Binary64}
 use Rattle.device.specs.Creation.{createOf}
 use Rattle.device.specs.Arrive.{arriveOf}
 use Rattle.device.specs.Release.{releaseOf}
@@ -25,7 +25,7 @@ use Rattle.device.specs.declared.answers.Reported.{Reported}
 use Rattle.device.specs.declared.answers.TornDown.{TornDown}
 use Rattle.device.specs.declared.device.Device.{Device}
 use Rattle.claim.specs.Replies.{saidOfRelease, saidOfReport}
-use Rattle.claim.specs.Runs.{Parses, Creates, Arrives, Releases, Rebinds, TearsDown, Reports, Reads, Says, hands-out, none, refuses, Answered, arrives, releases, rebinds, tearsDown, reports, Ran, done, next, Binary64Call, Binary64}
+use Rattle.claim.specs.Runs.{Parses, Creates, Arrives, Releases, Rebinds, TearsDown, Reports, Reads, Says, hands-out, none, refuses, Answered, arrives, releases, rebinds, tearsDown, reports, Ran, done, next}
 use Rattle.claim.specs.Laws.Answers.{Said, said, saidByArrive, saidByRelease, saidByRebind, saidByTeardown, answerTo, answersTo}
 
 pub parses-is : {text : List ℕ} {r : Parsed} → Parses text r → r ≡ parseOf text

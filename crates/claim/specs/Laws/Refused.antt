@@ -12,12 +12,13 @@ use Rattle.numbers.specs.Instant.{isInstantOf}
 use Rattle.numbers.specs.Laws.NotNan.{cond-has}
 use Rattle.numbers.specs.Refusals.{refusedKeeping, refusedFull}
 use Rattle.accounts.specs.Calls.{onSendOf}
+use Rattle.accounts.specs.declared.accountant.SendAccountant.{SendAccountant}
 use Rattle.accounts.specs.declared.answers.Outcome.{Outcome}
 use Rattle.accounts.specs.declared.answers.Outcome.the-variants as outcome
 use Rattle.steps.specs.declared.decision.Decision.{Decision}
 use Rattle.steps.specs.declared.decision.Decision.the-variants.{DropRandom, DropGe, DropMtu, DropBlackout, DropKillHold, Enqueue, KillRst}
 use Rattle.engine.specs.Calls.{shouldRebindNowOf}
-use Rattle.engine.specs.Decide.{decideUncheckedOf}
+use Rattle.engine.specs.Decide.{decidePassedOf}
 use Rattle.engine.specs.declared.answers.BoolAnswer.{BoolAnswer}
 use Rattle.engine.specs.declared.answers.BoolAnswer.the-variants as bool
 use Rattle.queue.specs.Calls.{pushOf, pushAgainOf, drainOf, releaseOf as queueReleaseOf}
@@ -39,7 +40,7 @@ use Rattle.admission.specs.declared.admitted.Admitted.{Admitted}
 use Rattle.device.specs.Arrive.{answerOf, settledOf, arriveRefusal, arriveOf}
 use Rattle.device.specs.Others.{reboundBy, rebindOf, tornBy as tornDownBy, teardownOf}
 use Rattle.device.specs.Refusals.{callRefusal}
-use Rattle.device.specs.Release.{accountedBy, accountedOf, withQueue, sentBy, releaseRefusal, releaseOf}
+use Rattle.device.specs.Release.{toldOf, accountedOf, sendingBy, releaseRefusal, releaseOf}
 use Rattle.device.specs.declared.answers.ArriveAnswer.the-variants as answer
 use Rattle.device.specs.declared.answers.Arrived.{Arrived}
 use Rattle.device.specs.declared.answers.Rebound.{Rebound}
@@ -95,16 +96,16 @@ settled-keeping : (d : Decision) (n i o t : ℕ) → (n ≡ 0) ⊎ (n ≡ refuse
 settled-keeping d n i o t (inl z) = rw z (λ (k : ℕ) e. let y : _≡_ {A = ℕ} 0 1 = cc in absurd (omega arith))
 settled-keeping d n i o t (inr z) = rw z keeping
 
-accounted-keeping : (store : List ℕ) (o : Outcome) (v : Device) (c : Queued) → OnlyKeeping (saidOfRelease slotWidth store (accountedBy o v c .answer))
-unfolding accountedBy
-accounted-keeping store outcome.Done v c k e = let y : _≡_ {A = ℕ} 0 1 = cc in absurd (omega arith)
-accounted-keeping store (outcome.Refused n) v c k e = keeping k e
+told-keeping : (store : List ℕ) (o : Outcome) (c : Queued) → OnlyKeeping (saidOfRelease slotWidth store (toldOf o c))
+unfolding toldOf
+told-keeping store outcome.Done c k e = let y : _≡_ {A = ℕ} 0 1 = cc in absurd (omega arith)
+told-keeping store (outcome.Refused n) c k e = keeping k e
 
-sent-keeping : (store : List ℕ) (a : ReleaseAnswer) (v : Device) (now : Float) → OnlyKeeping (saidOfRelease slotWidth store (sentBy a v now .answer))
-unfolding sentBy accountedOf
-sent-keeping store (left.Released c) v now k e = accounted-keeping store (onSendOf (v .accounts) (c .length) (sub binary64 now (c .«arrival_ms»)) .answer) _ c k e
-sent-keeping store left.NoneDue v now k e = let y : _≡_ {A = ℕ} 0 1 = cc in absurd (omega arith)
-sent-keeping store (left.Refused n) v now k e = keeping k e
+sent-keeping : (store : List ℕ) (a : ReleaseAnswer) (q : ImpairQueue) (s : SendAccountant) (now : Float) → OnlyKeeping (saidOfRelease slotWidth store (sendingBy a q s now .answer))
+unfolding sendingBy accountedOf
+sent-keeping store (left.Released c) q s now k e = told-keeping store (onSendOf s (c .length) (sub binary64 now (c .«arrival_ms»)) .answer) c k e
+sent-keeping store left.NoneDue q s now k e = let y : _≡_ {A = ℕ} 0 1 = cc in absurd (omega arith)
+sent-keeping store (left.Refused n) q s now k e = keeping k e
 
 rebound-keeping : (a : BoolAnswer) (v : Device) → OnlyKeeping (saidOfRebind (reboundBy a v .answer))
 unfolding reboundBy
@@ -133,7 +134,7 @@ module _ (v : Device) (t : Tables) where
   pub call-stays : (c : Call) → Stays (answerTo v t c)
   unfolding answerTo arriveOf settledOf answerOf releaseOf rebindOf teardownOf
   call-stays (arrive now bytes route) =
-      let d = decideUncheckedOf (v .engine) now (length bytes) in
+      let d = decidePassedOf (v .engine) now (length bytes) in
       let f = followOf slotWidth (v .queue) t (d .decision) now route bytes in
       cond-has (λ (o : After Arrived). Stays (saidByArrive o)) (eqb (arriveRefusal slotWidth v t now (length bytes)) 0)
       (late _ (settled-keeping (d .decision) (f .gives .number) (f .gives .entered) (f .gives .overflowed) (f .gives .torn) (follow-number (v .queue) t (d .decision) now route bytes)))
@@ -141,7 +142,7 @@ module _ (v : Device) (t : Tables) where
   call-stays (release now) =
       let l = queueReleaseOf slotWidth (v .queue) t now in
       cond-has (λ (o : After Released). Stays (saidByRelease o)) (eqb (releaseRefusal slotWidth v t now) 0)
-      (late _ (sent-keeping (l .memory .store) (l .gives .answer) (withQueue v (l .gives .queue)) now))
+      (late _ (sent-keeping (l .memory .store) (l .gives .answer) (l .gives .queue) (v .accounts) now))
       (at-once _)
   call-stays (rebind now) =
       cond-has (λ (o : Rebound). Stays (saidByRebind t o)) (eqb (callRefusal v true (isInstantOf now) true) 0)

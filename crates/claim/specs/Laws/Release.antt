@@ -32,9 +32,10 @@ use Rattle.engine.specs.Laws.Sound.{SoundEngine}
 use Rattle.machine.specs.Calls.{release, released, noneDue}
 use Rattle.machine.specs.Machine.{Machine}
 use Rattle.machine.specs.Steps.{Step, stepTo, leave, handOut, releaseStep, step}
-use Rattle.device.specs.Release.{notReleased, accountedBy, accountedOf, sentBy, sentIn, releaseOf}
+use Rattle.device.specs.Release.{notReleased, sending, toldOf, accountedOf, sendingBy, sentWith, sentIn, releaseOf}
 use Rattle.device.specs.declared.answers.Released.{Released}
 use Rattle.device.specs.declared.device.Device.{Device}
+use Rattle.device.specs.declared.release.Sending.{Sending}
 use Rattle.claim.specs.Replies.{saidOfRelease}
 use Rattle.claim.specs.Laws.Matches.{Matches, AllShort}
 use Rattle.claim.specs.Laws.Agree.{Agrees, queueOf, deviceOf, of-device, parts-match, Passed, by-refusal}
@@ -51,17 +52,17 @@ unfolding isLengthOf
 sent-done a n x short counted = send-done a n x (le-leb n maxLength short) counted
 
 accounted : (m : Machine) (q : ImpairQueue) (c : Queued) (now : Float) → c .length ≤ maxLength → areCounters (accountantCounters (m .accounts)) ≡ true
-    → accountedOf (deviceOf m q) c now ≡ record { device = record { engine = m .engine; queue = q; accounts = sentOf (m .accounts) (c .length) (sub binary64 now (c .«arrival_ms»)); torn = m .torn }; answer = answer.Released c }
-unfolding accountedOf accountedBy
+    → accountedOf q (m .accounts) c now ≡ sending q (sentOf (m .accounts) (c .length) (sub binary64 now (c .«arrival_ms»))) (answer.Released c)
+unfolding accountedOf toldOf
 accounted m q c now short counted =
-    ap (λ (s : Sent). accountedBy (s .answer) (record { engine = m .engine; queue = q; accounts = s .accountant; torn = m .torn }) c)
+    ap (λ (s : Sent). sending q (s .accountant) (toldOf (s .answer) c))
     (sent-done (m .accounts) (c .length) (sub binary64 now (c .«arrival_ms»)) short counted)
 
 module _ (m : Machine) (sound : SoundEngine (m .engine)) (short : AllShort (m .held)) (now : Float) where
   -- nothing is due
   none-left : (a : ReleaseAnswer) (q : ImpairQueue) (t : Tables) → queueSays slotWidth (t .store) a ≡ queueNoneDue → Keeps slotWidth t q (queueOf m)
-      → ReleaseAgrees (after (sentBy a (deviceOf m q) now) t) (stepTo noneDue m)
-  unfolding sentBy
+      → ReleaseAgrees (after (sentWith (deviceOf m q) (sendingBy a q (m .accounts) now)) t) (stepTo noneDue m)
+  unfolding sendingBy
   none-left (answer.Released c) q t says keeps = let z : _≡_ {A = ℕ} 0 1 = cc in absurd (omega arith)
   none-left answer.NoneDue q t says keeps = record { says = refl; matches = parts-match m q t keeps sound short }
   none-left (answer.Refused k) q t says keeps = let z : _≡_ {A = ℕ} 0 1 = cc in absurd (omega arith)
@@ -69,19 +70,19 @@ module _ (m : Machine) (sound : SoundEngine (m .engine)) (short : AllShort (m .h
   module _ (counted : areCounters (accountantCounters (m .accounts)) ≡ true) where
     -- what the queue hands out, the device hands out and accounts
     handed-out : (x : Queued) (q : ImpairQueue) (t : Tables) → copyOf slotWidth (t .store) x .length ≤ maxLength → Keeps slotWidth t q (plain (m .cap) (without (copyOf slotWidth (t .store) x .seq) (m .held)) (m .nextSeq))
-        → ReleaseAgrees (after (accountedOf (deviceOf m q) x now) t) (stepTo (released (copyOf slotWidth (t .store) x)) (leave m now (copyOf slotWidth (t .store) x)))
+        → ReleaseAgrees (after (sentWith (deviceOf m q) (accountedOf q (m .accounts) x now)) t) (stepTo (released (copyOf slotWidth (t .store) x)) (leave m now (copyOf slotWidth (t .store) x)))
     handed-out x q t within keeps =
-        subst (λ (o : Released). ReleaseAgrees (after o t) (stepTo (released (copyOf slotWidth (t .store) x)) (leave m now (copyOf slotWidth (t .store) x))))
+        subst (λ (o : Sending). ReleaseAgrees (after (sentWith (deviceOf m q) o) t) (stepTo (released (copyOf slotWidth (t .store) x)) (leave m now (copyOf slotWidth (t .store) x))))
         (sym (accounted m q x now within counted))
         (record { says = refl; matches = parts-match (leave m now (copyOf slotWidth (t .store) x)) q t keeps sound (short-without (x .seq) (m .held) short) })
 
     one-left : (c : Copy) → c .length ≤ maxLength → (a : ReleaseAnswer) (q : ImpairQueue) (t : Tables) → queueSays slotWidth (t .store) a ≡ queueReleased c
         → Keeps slotWidth t q (plain (m .cap) (without (c .seq) (m .held)) (m .nextSeq))
-        → ReleaseAgrees (after (sentBy a (deviceOf m q) now) t) (stepTo (released c) (leave m now c))
-    unfolding sentBy
+        → ReleaseAgrees (after (sentWith (deviceOf m q) (sendingBy a q (m .accounts) now)) t) (stepTo (released c) (leave m now c))
+    unfolding sendingBy
     one-left c within (answer.Released x) q t says keeps =
         let same : copyOf slotWidth (t .store) x ≡ c = cc in
-        subst (λ (y : Copy). ReleaseAgrees (after (accountedOf (deviceOf m q) x now) t) (stepTo (released y) (leave m now y))) same
+        subst (λ (y : Copy). ReleaseAgrees (after (sentWith (deviceOf m q) (accountedOf q (m .accounts) x now)) t) (stepTo (released y) (leave m now y))) same
         (handed-out x q t (subst (λ (y : Copy). y .length ≤ maxLength) (sym same) within) (subst (λ (y : Copy). Keeps slotWidth t q (plain (m .cap) (without (y .seq) (m .held)) (m .nextSeq))) (sym same) keeps))
     one-left c within answer.NoneDue q t says keeps = let z : _≡_ {A = ℕ} 0 1 = cc in absurd (omega arith)
     one-left c within (answer.Refused k) q t says keeps = let z : _≡_ {A = ℕ} 0 1 = cc in absurd (omega arith)
@@ -91,7 +92,7 @@ module _ (m : Machine) (sound : SoundEngine (m .engine)) (short : AllShort (m .h
       abbrev Said : QueueStep → Type 0
       Said s = (queueSays slotWidth (t .store) a ≡ s .reply) × Keeps slotWidth t q (s .then)
 
-      both-hand-out : (x : Leaving) → leaving now (m .held) ≡ x → Said (queueHandOut (queueOf m) x) → ReleaseAgrees (after (sentBy a (deviceOf m q) now) t) (handOut m now x)
+      both-hand-out : (x : Leaving) → leaving now (m .held) ≡ x → Said (queueHandOut (queueOf m) x) → ReleaseAgrees (after (sentWith (deviceOf m q) (sendingBy a q (m .accounts) now)) t) (handOut m now x)
       unfolding queueHandOut handOut
       both-hand-out noCopy e h = none-left a q t (h .0) (h .1)
       both-hand-out (oneCopy c) e h = one-left c (short-mem c (m .held) (leaving-mem now (m .held) c e) short) a q t (h .0) (h .1)

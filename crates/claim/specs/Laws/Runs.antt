@@ -2,11 +2,10 @@
 use mathlib.Core.Path.{_≡_, refl, ap, _∙_}
 use mathlib.Core.List.{List, [], _∷_}
 use Rattle.queue.specs.Tables.{Tables}
-use Rattle.machine.specs.Calls.{Call, arrive, release, rebind, teardown, report, Answer}
+use Rattle.machine.specs.Calls.{Call, arrive, release, rebind, teardown, report, Answer, Binary64Call, Binary64}
 use Rattle.machine.specs.Machine.{Machine}
 use Rattle.machine.specs.Steps.{step, answers}
 use Rattle.device.specs.declared.device.Device.{Device}
-use Rattle.claim.specs.Runs.{Binary64Call, Binary64}
 use Rattle.claim.specs.Laws.Answers.{answerTo, answersTo}
 use Rattle.claim.specs.Laws.Matches.{Matches}
 use Rattle.claim.specs.Laws.Agree.{Agrees}

@@ -10,18 +10,19 @@ use lib.Pow.{pow-pos, pow-add, pow-mono, shl-lt}
 use lib.Ieee.{binary64, mul, round, lt}
 use lib.Ieee.Exact.{HasValue, round-exact}
 use Rattle.numbers.specs.Whole.{whole}
+use Rattle.numbers.specs.Limits.{maxExact}
 use Rattle.numbers.specs.Laws.Kinds.{PlusFinite, value-plus}
 use Rattle.numbers.specs.Laws.Products.{mul-values}
 use Rattle.numbers.specs.Laws.Whole.{lt-values, whole-value}
 use Rattle.draws.specs.declared.rng.Rng.{Rng}
 use Rattle.draws.specs.Shifts.{topBits}
-use Rattle.draws.specs.Rng.{powerBelow, fractionOf, outputOf, nextF64Of}
+use Rattle.draws.specs.Rng.{powerBelow, fractionOf, outputOf, drawWidth, nextF64Of}
 use Rattle.draws.specs.Laws.Top.{top-lt}
 
 -- k over 2 ^ w is a value of the format
 quotient-exact : (w k : ℕ) → w ≤ 53 → k < 2 ^ w → HasValue (round binary64 false k (2 ^ w)) false k (2 ^ w)
 quotient-exact w k h l =
-    let few : k < 2 ^ 53 = lt-of-lt-of-le l (pow-mono h) in
+    let few : k < maxExact = lt-of-lt-of-le l (pow-mono h) in
     round-exact binary64 false k (2 ^ w) k (1074 - w) (pow-pos w) few
     (lt-of-lt-of-le (shl-lt 53 (1074 - w) few) (pow-mono (room w)))
     (ap (λ (z : ℕ). k * z) (ap (λ (z : ℕ). 2 ^ z) (back w h) ∙ pow-add 2 (1074 - w) w) ∙ sym (mul-assoc k (2 ^ (1074 - w)) (2 ^ w)))
@@ -51,10 +52,10 @@ pub output-lt : (x : ℕ) → outputOf x < 2 ^ 64
 unfolding outputOf
 output-lt x = mod-lt _ (pow-pos 64)
 
--- every draw is the top 53 bits of its output over 2 ^ 53
-pub draw-exact : (g : Rng) → HasValue (nextF64Of g .value) false (topBits 53 (outputOf (g .state))) (2 ^ 53)
+-- every draw is the top bits of its output over their number of values
+pub draw-exact : (g : Rng) → HasValue (nextF64Of g .value) false (topBits drawWidth (outputOf (g .state))) (2 ^ drawWidth)
 unfolding nextF64Of
-draw-exact g = fraction-exact 53 (outputOf (g .state)) (le-refl 53) (output-lt (g .state))
+draw-exact g = fraction-exact drawWidth (outputOf (g .state)) (le-refl drawWidth) (output-lt (g .state))
 
 -- a draw is finite with a clear sign bit, and below 1
 pub draw-plus : (g : Rng) → PlusFinite (nextF64Of g .value)
@@ -62,6 +63,6 @@ draw-plus g = value-plus _ _ _ (draw-exact g)
 
 pub draw-below-one : (g : Rng) → lt (nextF64Of g .value) (powerBelow 0) ≡ true
 draw-below-one g =
-    let k = topBits 53 (outputOf (g .state)) in
-    lt-values _ (powerBelow 0) k (2 ^ 53) 1 1 (pow-pos 53) (lit< tt) (draw-exact g) (power-value 0)
-    ∙ lt-ltb (k * 1) (1 * 2 ^ 53) (rw mul-one (top-lt 53 (outputOf (g .state)) (lit≤ tt) (output-lt (g .state))))
+    let k = topBits drawWidth (outputOf (g .state)) in
+    lt-values _ (powerBelow 0) k (2 ^ drawWidth) 1 1 (pow-pos drawWidth) (lit< tt) (draw-exact g) (power-value 0)
+    ∙ lt-ltb (k * 1) (1 * 2 ^ drawWidth) (rw mul-one (top-lt drawWidth (outputOf (g .state)) (lit≤ tt) (output-lt (g .state))))

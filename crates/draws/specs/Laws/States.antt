@@ -9,7 +9,7 @@ use lib.Dec.{T, eqb}
 use lib.Ieee.Fits.{eq→eqb}
 use lib.Pow.{pow-add, pow-mono}
 use Rattle.draws.specs.Shifts.{xorShiftRight, xorShiftLeft, goldenGamma}
-use Rattle.draws.specs.Rng.{newOf, stepOf, outputOf, nextU64Of}
+use Rattle.draws.specs.Rng.{newRngOf, stepOf, outputOf, nextU64Of}
 
 pub zero-stays : nextU64Of (record { state = 0 }) ≡ record { rng = record { state = 0 }; value = 0 }
 unfolding nextU64Of outputOf stepOf
@@ -68,8 +68,8 @@ unfoldable pub stateAfter : ℕ → ℕ → ℕ
 stateAfter zero x = x
 stateAfter (suc n) x = stateAfter n (stepOf x)
 
-new-zero : (seed : ℕ) → newOf seed .state ≡ 0 → ⊥
-unfolding newOf
+new-zero : (seed : ℕ) → newRngOf seed .state ≡ 0 → ⊥
+unfolding newRngOf
 new-zero seed e = go (eqb seed 0) (eq→eqb {a = seed} {b = 0}) e
   where
     go : (b : Bool) → (seed ≡ 0 → T b) → cond b goldenGamma seed ≡ 0 → ⊥
@@ -81,5 +81,5 @@ unfolding stateAfter
 came zero x e = e
 came (suc n) x e = step-zero x (came n (stepOf x) e)
 
-pub never-zero : (n seed : ℕ) → stateAfter n (newOf seed .state) ≡ 0 → ⊥
-never-zero n seed e = new-zero seed (came n (newOf seed .state) e)
+pub never-zero : (n seed : ℕ) → stateAfter n (newRngOf seed .state) ≡ 0 → ⊥
+never-zero n seed e = new-zero seed (came n (newRngOf seed .state) e)

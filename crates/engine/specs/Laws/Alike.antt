@@ -7,7 +7,7 @@ use Rattle.steps.specs.Arrival.{arrivedOf}
 use Rattle.steps.specs.declared.arrival.Arrival.{Arrival}
 use Rattle.steps.specs.declared.arrival.ArrivalState.{ArrivalState}
 use Rattle.judgement.specs.Scalars.{scalarsOf}
-use Rattle.engine.specs.Decide.{afterOf, decideUncheckedOf}
+use Rattle.engine.specs.Decide.{afterOf, decidePassedOf}
 use Rattle.engine.specs.Engine.{stateOf, gateAtOf}
 use Rattle.engine.specs.declared.engine.ArrivalEngine.{ArrivalEngine}
 
@@ -25,10 +25,10 @@ same-arrival e f now len a =
     ap (λ (c : DirectionConfig). arrivedOf (gateAtOf c now) (scalarsOf c) (stateOf e) now len) (a .settings)
     ∙ ap (λ (s : ArrivalState). arrivedOf (gateAtOf (f .cfg) now) (scalarsOf (f .cfg)) s now len) (a .state)
 
-pub decide-alike : (e f : ArrivalEngine) (now : Float) (len : ℕ) → Alike e f → decideUncheckedOf e now len .decision ≡ decideUncheckedOf f now len .decision
-unfolding decideUncheckedOf arrivalOf
+pub decide-alike : (e f : ArrivalEngine) (now : Float) (len : ℕ) → Alike e f → decidePassedOf e now len .decision ≡ decidePassedOf f now len .decision
+unfolding decidePassedOf arrivalOf
 decide-alike e f now len a = ap (λ (x : Arrival). x .decision) (same-arrival e f now len a)
 
-pub stay-alike : (e f : ArrivalEngine) (now : Float) (len : ℕ) → Alike e f → Alike (decideUncheckedOf e now len .engine) (decideUncheckedOf f now len .engine)
-unfolding decideUncheckedOf afterOf stateOf arrivalOf
+pub stay-alike : (e f : ArrivalEngine) (now : Float) (len : ℕ) → Alike e f → Alike (decidePassedOf e now len .engine) (decidePassedOf f now len .engine)
+unfolding decidePassedOf afterOf stateOf arrivalOf
 stay-alike e f now len a = record { settings = a .settings; state = ap (λ (x : Arrival). x .state) (same-arrival e f now len a) }

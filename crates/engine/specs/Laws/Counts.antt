@@ -8,9 +8,10 @@ use Rattle.numbers.specs.Laws.NotNan.{cond-has}
 use Rattle.steps.specs.Decision.{isDropOf}
 use Rattle.steps.specs.declared.decision.Decision.{Decision}
 use Rattle.steps.specs.declared.decision.Decision.the-variants.{DropRandom, DropGe, DropMtu, DropBlackout, DropKillHold, Enqueue, KillRst}
-use Rattle.engine.specs.Calls.{decideOf}
+use Rattle.judgement.specs.Settings.{isSettingsOf}
+use Rattle.engine.specs.Calls.{decideGivenOf, decideOf}
 use Rattle.engine.specs.Counts.{oneIf, countsOf, countedOf}
-use Rattle.engine.specs.Decide.{afterOf, decideUncheckedOf}
+use Rattle.engine.specs.Decide.{afterOf, decidePassedOf}
 use Rattle.engine.specs.Refusals.{arrivalRefusal}
 use Rattle.engine.specs.declared.answers.DecideAnswer.{DecideAnswer}
 use Rattle.engine.specs.declared.answers.DecideAnswer.the-variants.{Decided, Refused}
@@ -86,8 +87,8 @@ pub record CountedAs (before after : ArrivalEngine) (len : ℕ) (d : Decision) :
   pub sent : after .stats .«sent_pkts» ≡ before .stats .«sent_pkts»
   pub rebinds : after .stats .«nat_rebinds» ≡ before .stats .«nat_rebinds»
 
-pub decide-counts : (e : ArrivalEngine) (now : Float) (len : ℕ) → CountedAs e (decideUncheckedOf e now len .engine) len (decideUncheckedOf e now len .decision)
-unfolding decideUncheckedOf afterOf countedOf
+pub decide-counts : (e : ArrivalEngine) (now : Float) (len : ℕ) → CountedAs e (decidePassedOf e now len .engine) len (decidePassedOf e now len .decision)
+unfolding decidePassedOf afterOf countedOf
 decide-counts e now len = record { received = refl; bytes = refl; random = refl; ge = refl; mtu = refl; blackout = refl; duplicates = refl; overflow = refl; resets = refl; sent = refl; rebinds = refl }
 
 -- what a call of `decide` does to the counters: as its decision says, or nothing where it is refused
@@ -96,5 +97,5 @@ Accounted before after len (Decided d) = CountedAs before after len d
 Accounted before after len (Refused k) = after ≡ before
 
 pub decide-accounts : (e : ArrivalEngine) (now : Float) (len : ℕ) → Accounted e (decideOf e now len .engine) len (decideOf e now len .answer)
-unfolding decideOf
-decide-accounts e now len = cond-has (λ (r : DecidedEngine). Accounted e (r .engine) len (r .answer)) (eqb (arrivalRefusal e now len) 0) (decide-counts e now len) refl
+unfolding decideGivenOf
+decide-accounts e now len = cond-has (λ (r : DecidedEngine). Accounted e (r .engine) len (r .answer)) (eqb (arrivalRefusal (isSettingsOf (e .cfg)) e now len) 0) (decide-counts e now len) refl

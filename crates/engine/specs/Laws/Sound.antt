@@ -18,14 +18,15 @@ use Rattle.numbers.specs.Laws.NotNan.{cond-when}
 use Rattle.options.specs.Config.{defaultDirection}
 use Rattle.values.specs.Whole.{isBounded}
 use Rattle.settings.specs.Judgement.{isProbability, isTime, isGe}
-use Rattle.options.specs.Judgement.{isRate, isSettingsOf}
-use Rattle.options.specs.Laws.Judgement.{default-judged}
+use Rattle.judgement.specs.Settings.{isSettingsOf}
+use Rattle.judgement.specs.Laws.Parsed.{default-judged}
 use Rattle.options.specs.declared.config.DirectionConfig.{DirectionConfig}
 use Rattle.steps.specs.Laws.Credit.{longestPlanned, full-credit}
 use Rattle.steps.specs.Laws.Sound.{SoundScalars, SoundState, DueFrom, arrived-sound}
-use Rattle.judgement.specs.Scalars.{scalarsOf}
-use Rattle.engine.specs.Calls.{newOf, decideOf}
-use Rattle.engine.specs.Decide.{afterOf, decideUncheckedOf}
+use Rattle.judgement.specs.Scalars.{isRate, scalarsOf, areScalarsOf}
+use Rattle.engine.specs.Calls.{newEngineOf, decideGivenOf, decideOf}
+use Rattle.engine.specs.Changes.{withOverflow, overflowedOf, reboundOf}
+use Rattle.engine.specs.Decide.{afterOf, decidePassedOf}
 use Rattle.engine.specs.Engine.{freshOf, stateOf}
 use Rattle.engine.specs.Laws.Refusals.{no-refusal}
 use Rattle.engine.specs.Refusals.{arrivalRefusal}
@@ -40,9 +41,10 @@ pub record SoundEngine (e : ArrivalEngine) : Type 0 where
   pub state : SoundState (stateOf e)
 
 settings-sound : (cfg : DirectionConfig) → isSettingsOf cfg ≡ true → SoundScalars (scalarsOf cfg)
-unfolding isSettingsOf scalarsOf
+unfolding isSettingsOf areScalarsOf scalarsOf
 settings-sound cfg h =
-    let loss = both-true (isProbability (cfg .loss)) _ h in
+    let scalars = both-true (areScalarsOf (scalarsOf cfg)) _ h in
+    let loss = both-true (isProbability (cfg .loss)) _ (scalars .0) in
     let ge = both-true (isGe (cfg .ge)) _ (loss .1) in
     let delay = both-true (isTime (cfg .«delay_ms»)) _ (ge .1) in
     let jitter = both-true (isTime (cfg .«jitter_ms»)) _ (delay .1) in
@@ -67,11 +69,20 @@ fresh-sound cfg seed h =
     }
 
 -- every new engine, that of a refused creation too
-pub new-sound : (cfg : DirectionConfig) (seed : ℕ) → SoundEngine (newOf cfg seed .engine)
-unfolding newOf
+pub new-sound : (cfg : DirectionConfig) (seed : ℕ) → SoundEngine (newEngineOf cfg seed .engine)
+unfolding newEngineOf
 new-sound cfg seed =
     cond-when (λ (c : Changed). SoundEngine (c .engine)) (isSettingsOf cfg) (λ t. fresh-sound cfg seed (is-true (isSettingsOf cfg) t))
     (fresh-sound defaultDirection 0 default-judged)
+
+-- what is counted, and the next rebind, are no part of what keeps an engine sound
+pub overflowed-sound : (e : ArrivalEngine) (n : ℕ) → SoundEngine e → SoundEngine (overflowedOf e n)
+unfolding withOverflow stateOf
+overflowed-sound e n s = record { settings = s .settings; state = s .state }
+
+pub rebound-sound : (e : ArrivalEngine) → SoundEngine e → SoundEngine (reboundOf e)
+unfolding reboundOf stateOf
+rebound-sound e s = record { settings = s .settings; state = s .state }
 
 -- ---- one arrival
 
@@ -81,10 +92,10 @@ pub record Planned (now : Float) (len : ℕ) : Type 0 where
   pub bounded : Bounded now
   pub short : len ≤ longestPlanned
 
-pub unchecked-sound : (e : ArrivalEngine) (now : Float) (len : ℕ) → SoundEngine e → Planned now len
-    → SoundEngine (decideUncheckedOf e now len .engine) × DueFrom now (decideUncheckedOf e now len .decision)
-unfolding decideUncheckedOf afterOf stateOf
-unchecked-sound e now len s a =
+pub passed-sound : (e : ArrivalEngine) (now : Float) (len : ℕ) → SoundEngine e → Planned now len
+    → SoundEngine (decidePassedOf e now len .engine) × DueFrom now (decidePassedOf e now len .decision)
+unfolding decidePassedOf afterOf stateOf
+passed-sound e now len s a =
     let after = arrived-sound _ (scalarsOf (e .cfg)) _ now len (settings-sound (e .cfg) (s .settings)) (s .state) (a .fit) (a .bounded) (a .short) in
     (record { settings = s .settings; state = after .0 }, after .1)
 
@@ -96,12 +107,12 @@ DueAnswered now (Refused k) = Unit {0}
 -- a call of `decide`, refused or not
 pub decide-sound : (e : ArrivalEngine) (now : Float) (len : ℕ) → SoundEngine e → T (fits binary64 now)
     → SoundEngine (decideOf e now len .engine) × DueAnswered now (decideOf e now len .answer)
-unfolding decideOf
+unfolding decideGivenOf
 decide-sound e now len s fit =
-    cond-when (λ (d : DecidedEngine). SoundEngine (d .engine) × DueAnswered now (d .answer)) (eqb (arrivalRefusal e now len) 0)
+    cond-when (λ (d : DecidedEngine). SoundEngine (d .engine) × DueAnswered now (d .answer)) (eqb (arrivalRefusal (isSettingsOf (e .cfg)) e now len) 0)
     (λ t.
-    let ok = no-refusal e (isInstantOf now) (isLengthOf len) (eqb→eq (arrivalRefusal e now len) 0 t) in
-    unchecked-sound e now len s (record { fit = fit; bounded = instant-bounded now (ok .instant-passes); short = omega (arith, length-within len (ok .length-passes)) }))
+    let ok = no-refusal (isSettingsOf (e .cfg)) e (isInstantOf now) (isLengthOf len) (eqb→eq (arrivalRefusal (isSettingsOf (e .cfg)) e now len) 0 t) in
+    passed-sound e now len s (record { fit = fit; bounded = instant-bounded now (ok .instant-passes); short = omega (arith, length-within len (ok .length-passes)) }))
     (s, tt)
 
 -- ---- every sequence of arrivals
@@ -109,7 +120,7 @@ decide-sound e now len s fit =
 -- each due of a sequence of arrivals, one engine handed on from each to the next
 abbrev pub DuesAlong : ArrivalEngine → List (Float × ℕ) → Type 0
 DuesAlong e [] = Unit {0}
-DuesAlong e (a ∷ l) = DueFrom (a .0) (decideUncheckedOf e (a .0) (a .1) .decision) × DuesAlong (decideUncheckedOf e (a .0) (a .1) .engine) l
+DuesAlong e (a ∷ l) = DueFrom (a .0) (decidePassedOf e (a .0) (a .1) .decision) × DuesAlong (decidePassedOf e (a .0) (a .1) .engine) l
 
 abbrev pub AllPlanned : List (Float × ℕ) → Type 0
 AllPlanned [] = Unit {0}
@@ -118,12 +129,12 @@ AllPlanned (a ∷ l) = Planned (a .0) (a .1) × AllPlanned l
 -- the engine after a sequence of arrivals
 abbrev pub afterAll : ArrivalEngine → List (Float × ℕ) → ArrivalEngine
 afterAll e [] = e
-afterAll e (a ∷ l) = afterAll (decideUncheckedOf e (a .0) (a .1) .engine) l
+afterAll e (a ∷ l) = afterAll (decidePassedOf e (a .0) (a .1) .engine) l
 
 pub arrivals-sound : (e : ArrivalEngine) (l : List (Float × ℕ)) → SoundEngine e → AllPlanned l → SoundEngine (afterAll e l)
 arrivals-sound e [] s h = s
-arrivals-sound e (a ∷ l) s h = arrivals-sound _ l (unchecked-sound e (a .0) (a .1) s (h .0) .0) (h .1)
+arrivals-sound e (a ∷ l) s h = arrivals-sound _ l (passed-sound e (a .0) (a .1) s (h .0) .0) (h .1)
 
 pub dues-sound : (e : ArrivalEngine) (l : List (Float × ℕ)) → SoundEngine e → AllPlanned l → DuesAlong e l
 dues-sound e [] s h = tt
-dues-sound e (a ∷ l) s h = let after = unchecked-sound e (a .0) (a .1) s (h .0) in (after .1, dues-sound _ l (after .0) (h .1))
+dues-sound e (a ∷ l) s h = let after = passed-sound e (a .0) (a .1) s (h .0) in (after .1, dues-sound _ l (after .0) (h .1))

@@ -78,7 +78,7 @@ bare-without seq (c ∷ l) = either (map bareCopy) (eqb (c .seq) seq) (bare-with
 
 -- ---- steps
 
-bare-unless : (m : Machine) (instant length : Bool) (s : Step) → bareStep (unless m instant length s) ≡ unless (bareMachine m) instant length (bareStep s)
+bare-unless : (m : Machine) (instant short : Bool) (s : Step) → bareStep (unless m instant short s) ≡ unless (bareMachine m) instant short (bareStep s)
 unfolding unless
 bare-unless m i l s = either bareStep (not i) refl (either bareStep (not l) refl (either bareStep (not (inRange (m .engine) (m .accounts) (m .torn) (m .nextSeq))) refl refl))
 

@@ -16,7 +16,7 @@ use Rattle.held.specs.Copies.{Copy, without, Mem}
 use Rattle.machine.specs.Machine.{Machine, Creation, freshMachine}
 use Rattle.machine.specs.Calls.{Call}
 use Rattle.machine.specs.Steps.{Step, Entry, enterCopy, follow, step}
-use Rattle.machine.specs.Laws.Cases.{Does, refuses, decides, releases, finds-none, rebinds, keeps, tears, reports, step-does, enters-have}
+use Rattle.machine.specs.Laws.Cases.{Does, refuses, decides, releases, finds-none, rebinds, address-stays, tears, reports, step-does, enters-have}
 
 -- the seqs of a list go up from lo or above, and are below hi
 abbrev pub Ascends : ℕ → List Copy → ℕ → Type 0
@@ -83,11 +83,11 @@ follow-order m KillRst now bytes route h = omega arith
 
 does-order : {m : Machine} {c : Call} {s : Step} → Does m c s → InOrder m → InOrder (s .then)
 does-order (refuses c k r) h = h
-does-order (decides now bytes route) h = follow-order _ _ now bytes route h
+does-order (decides now bytes route i l) h = follow-order _ _ now bytes route h
 does-order {m} (releases now c k) h = ascends-without (c .seq) 0 (m .held) (m .nextSeq) h
 does-order (finds-none now) h = h
 does-order (rebinds now) h = h
-does-order (keeps now) h = h
+does-order (address-stays now) h = h
 does-order tears h = omega arith
 does-order reports h = h
 

@@ -16,7 +16,7 @@ use Rattle.machine.specs.Machine.{Machine, Creation, freshMachine}
 use Rattle.machine.specs.Calls.{Call, arrive, release, rebind, teardown, report, released, refused}
 use Rattle.machine.specs.Steps.{Step, Entry, enterCopy, follow, step, answers}
 use Rattle.machine.specs.Arrivals.{Brought, brought, enteredBy, At, HandsOut, EachOwn}
-use Rattle.machine.specs.Laws.Cases.{Does, refuses, decides, releases, finds-none, rebinds, keeps, tears, reports, step-does, enters-have}
+use Rattle.machine.specs.Laws.Cases.{Does, refuses, decides, releases, finds-none, rebinds, address-stays, tears, reports, step-does, enters-have}
 
 -- as many have entered as the next seq says, and each copy of the held list may be handed out as one of them
 pub record Known (came : List Brought) (held : List Copy) (next : ℕ) : Type 0 where
@@ -111,7 +111,7 @@ follow-owns came m KillRst now bytes route h = record { hands = tt; known = noth
 
 does-owns : (came : List Brought) {m : Machine} {c : Call} {s : Step} → Does m c s → KnownTo came m → Owns came c s
 does-owns came {m} (refuses c k r) h = record { hands = tt; known = subst (λ (l : List Brought). KnownTo (came ++ l) m) (sym (refused-enters c k)) (nothing-came h) }
-does-owns came (decides now bytes route) h = follow-owns came _ _ now bytes route h
+does-owns came (decides now bytes route i l) h = follow-owns came _ _ now bytes route h
 does-owns came {m} (releases now c k) h =
     record {
       hands = h .own c k;
@@ -119,7 +119,7 @@ does-owns came {m} (releases now c k) h =
     }
 does-owns came (finds-none now) h = record { hands = tt; known = nothing-came h }
 does-owns came (rebinds now) h = record { hands = tt; known = nothing-came h }
-does-owns came (keeps now) h = record { hands = tt; known = nothing-came h }
+does-owns came (address-stays now) h = record { hands = tt; known = nothing-came h }
 does-owns came {m} tears h = record { hands = tt; known = nothing-came (known-none came (m .held) (m .nextSeq) h) }
 does-owns came reports h = record { hands = tt; known = nothing-came h }
 

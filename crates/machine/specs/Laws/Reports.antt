@@ -7,20 +7,20 @@ use lib.Dec.{ltb}
 use lib.Ieee.{Float}
 use lib.ListN.{length}
 use Rattle.numbers.specs.Laws.NotNan.{cond-has}
-use Rattle.accounts.specs.Accountant.{noSends, sentOf, withSends, mergedOf}
+use Rattle.accounts.specs.Accountant.{noSends, sentOf, withSends, mergedOf, resetsOf}
 use Rattle.accounts.specs.Stats.{noStats, withLatenciesOf}
 use Rattle.steps.specs.declared.decision.Decision.{Decision}
 use Rattle.steps.specs.declared.decision.Decision.the-variants.{DropRandom, DropGe, DropMtu, DropBlackout, DropKillHold, Enqueue, KillRst}
-use Rattle.engine.specs.Changes.{withOthers, overflowedOf, reboundOf}
+use Rattle.engine.specs.Changes.{withOthers, withOverflow, reboundOf}
 use Rattle.engine.specs.Counts.{countsOf}
 use Rattle.engine.specs.Engine.{freshOf}
 use Rattle.engine.specs.Laws.Counts.{CountedAs, decide-counts}
 use Rattle.engine.specs.declared.engine.ArrivalEngine.{ArrivalEngine}
 use Rattle.machine.specs.Machine.{Machine, Creation, freshMachine}
 use Rattle.machine.specs.Calls.{Call}
-use Rattle.machine.specs.Steps.{Step, Entry, entry, withEngine, enterCopy, resetOf, follow, step, answers}
-use Rattle.machine.specs.Tally.{Tally, tally, nothing, arrival, tallyOf, plus, cameIn, accountedFor, Told, Tells, EachTells}
-use Rattle.machine.specs.Laws.Cases.{Does, refuses, decides, releases, finds-none, rebinds, keeps, tears, reports, step-does, enters-have}
+use Rattle.machine.specs.Steps.{Step, Entry, entry, withEngine, enterCopy, follow, step, answers}
+use Rattle.machine.specs.Tally.{Tally, nothing, arrival, tallyOf, plus, cameIn, accountedFor, Told, Tells, EachTells}
+use Rattle.machine.specs.Laws.Cases.{Does, refuses, decides, releases, finds-none, rebinds, address-stays, tears, reports, step-does, enters-have}
 use Rattle.machine.specs.Laws.Held.{InOrder, step-order}
 use Rattle.machine.specs.Laws.Count.{step-balances}
 
@@ -51,7 +51,7 @@ Balanced x m = cameIn x ≡ accountedFor x (length (m .held))
 -- ---- steps
 
 abbrev overflows : ℕ → Tally
-overflows n = tally 0 0 0 0 0 0 0 n 0 0
+overflows n = record { received = 0; random = 0; ge = 0; mtu = 0; blackout = 0; reset = 0; duplicates = 0; overflow = n; released = 0; torn = 0 }
 
 -- copies that enter change no count but the overflow
 module _ (x : Tally) (due now : Float) (bytes : List ℕ) (route : ℕ) where
@@ -59,13 +59,13 @@ module _ (x : Tally) (due now : Float) (bytes : List ℕ) (route : ℕ) where
   CountedOn e = Counted (plus x (overflows (e .overflowed))) (e .then)
 
   enter-counts : (id : ℕ) (e : Entry) → CountedOn e → CountedOn (enterCopy due now route bytes id e)
-  unfolding enterCopy overflowedOf withOthers
+  unfolding enterCopy withOverflow withOthers
   enter-counts id e h = cond-has CountedOn (ltb (length (e .then .held)) (e .then .cap)) (omega arith) (omega arith)
 
 -- what follows on the decision, with the engine e that has counted it
 follow-counts : (x : Tally) (m : Machine) (e : ArrivalEngine) (d : Decision) (now : Float) (bytes : List ℕ) (route : ℕ)
     → Counted x m → CountedAs (m .engine) e (length bytes) d → Counts x (follow (withEngine m e) d now bytes route)
-unfolding follow countsOf resetOf
+unfolding follow countsOf resetsOf
 follow-counts x m e DropRandom now bytes route h k = omega arith
 follow-counts x m e DropGe now bytes route h k = omega arith
 follow-counts x m e DropMtu now bytes route h k = omega arith
@@ -80,11 +80,11 @@ follow-counts x m e KillRst now bytes route h k = omega arith
 does-counts : (x : Tally) {m : Machine} {c : Call} {s : Step} → Does m c s → Counted x m → Counts x s
 unfolding reboundOf withOthers sentOf
 does-counts x (refuses c k r) h = omega arith
-does-counts x {m} (decides now bytes route) h = follow-counts x m _ _ now bytes route h (decide-counts (m .engine) now (length bytes))
+does-counts x {m} (decides now bytes route i l) h = follow-counts x m _ _ now bytes route h (decide-counts (m .engine) now (length bytes))
 does-counts x (releases now c k) h = omega arith
 does-counts x (finds-none now) h = omega arith
 does-counts x (rebinds now) h = omega arith
-does-counts x (keeps now) h = omega arith
+does-counts x (address-stays now) h = omega arith
 does-counts x tears h = omega arith
 does-counts x reports h = omega arith
 
@@ -106,11 +106,11 @@ follow-tells x m KillRst now bytes route = tt
 
 does-tells : (x : Tally) {m : Machine} {c : Call} {s : Step} → Does m c s → Counted x m → Balanced x m → Tells x (s .answer)
 does-tells x (refuses c k r) h b = tt
-does-tells x (decides now bytes route) h b = follow-tells x _ _ now bytes route
+does-tells x (decides now bytes route i l) h b = follow-tells x _ _ now bytes route
 does-tells x (releases now c k) h b = tt
 does-tells x (finds-none now) h b = tt
 does-tells x (rebinds now) h b = tt
-does-tells x (keeps now) h b = tt
+does-tells x (address-stays now) h b = tt
 does-tells x tears h b = tt
 does-tells x {m} reports h b = merged-tells x m h b
 

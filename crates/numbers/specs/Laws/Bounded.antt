@@ -1,12 +1,13 @@
 -- Times, rates and capacities: numbers from 0 to 2 ^ 53 with a clear sign bit.
 use mathlib.Core.Path.{_≡_, refl, sym, ap, _∙_}
 use mathlib.Core.Bool.{Bool, true, false, not, true≢false}
-use Prim.Native.Nat.{ℕ, _*_, _^_, _≤_}
+use Prim.Native.Nat.{ℕ, _*_, _≤_}
 use native.Mathlib.Omega.{arith}
 use lib.Dec.{T, le→leb, lit<}
 use lib.IntN.{pos}
 use lib.Ieee.{Float, nan, inf, fin, binary64, isNan, lt, le}
 use Rattle.numbers.specs.Whole.{whole}
+use Rattle.numbers.specs.Limits.{maxExact}
 use Rattle.numbers.specs.Instant.{lastInstant, isInstantOf}
 use Rattle.numbers.specs.Laws.Kinds.{PlusFinite, plus-finite, value-plus, Number, number-inf, number-fin}
 use Rattle.numbers.specs.Laws.Order.{lt-is-not-le}
@@ -40,10 +41,10 @@ instant-bounded (fin true m e) h = absurd (true≢false (sym h))
 instant-bounded (fin false m e) h = record { clear = plus-finite m e; small = not-above (number-fin false m e) h }
 
 -- a whole number up to 2 ^ 53
-pub whole-bounded : (n : ℕ) → n ≤ 2 ^ 53 → Bounded (whole n)
+pub whole-bounded : (n : ℕ) → n ≤ maxExact → Bounded (whole n)
 whole-bounded n h =
     let v = whole-value binary64 n h in
     record {
       clear = value-plus _ n 1 v;
-      small = rw (le-values _ lastInstant n 1 (2 ^ 53) 1 (lit< tt) (lit< tt) v (refl, refl)) (le→leb (n * 1) (2 ^ 53 * 1) (omega arith));
+      small = rw (le-values _ lastInstant n 1 maxExact 1 (lit< tt) (lit< tt) v (refl, refl)) (le→leb (n * 1) (maxExact * 1) (omega arith));
     }

@@ -6,9 +6,11 @@ use native.Mathlib.Nat.{mul-comm}
 use native.Mathlib.Omega.{arith}
 use lib.Dec.{T, ltb, ltb→lt, lit<}
 use lib.IntN.{ℤ, pos}
-use lib.Ieee.{Float, inf, fin, binary64, round, add, sum, sub, mul, div, neg, lt, le, up, down, fits}
+use lib.Ieee.{Float, inf, fin, binary64, round, add, sum, sub, mul, div, neg, ofInt, lt, le, up, down, fits}
 use lib.Ieee.Fits.{round-fits, neg-fits, add-fits}
+use Rattle.numbers.specs.Whole.{whole}
 use Rattle.numbers.specs.Extremes.{minimumOf}
+use Rattle.numbers.specs.Credit.{refilledOf, waitOf}
 use Rattle.numbers.specs.Laws.Kinds.{Finite, finite-fin, finite-number, Plus, plus-inf, plus-fin, PlusFinite, plus-finite, Number, number-inf, number-fin, plus-number, plus-finite-number, plus-finite-plus}
 use Rattle.numbers.specs.Laws.NotNan.{cond-has, round-plus, add-plus, mul-plus, div-plus}
 use Rattle.numbers.specs.Laws.Transitive.{le-trans}
@@ -18,9 +20,6 @@ use Rattle.numbers.specs.Laws.Products.{finite-below, mul-mono, div-mono
 use Rattle.numbers.specs.Laws.Bounded.{Bounded, nought}
 use Rattle.numbers.specs.Laws.Zero.{nought-least, add-minus-zero}
 use Rattle.numbers.specs.Laws.Magnitude.{minus-le-plus, round-neg, le-neg, left-below}
-
-abbrev pub eightThousand : Float
-eightThousand = fin false 125 (pos 6)
 
 -- the powers of two that bound the debt and a packet's length: one packet more than 2 ^ 70 rounds back to it
 abbrev debtPower : ℕ
@@ -65,8 +64,8 @@ round-credit s a c q k l =
 -- ---- refilled
 
 -- the amount of a refill is finite
-amount : {x y : Float} → Bounded x → Bounded y → PlusFinite (div binary64 (mul binary64 x y) eightThousand)
-unfolding mul div
+amount : {x y : Float} → Bounded x → Bounded y → PlusFinite (div binary64 (mul binary64 x y) (whole 8000))
+unfolding mul div ofInt
 amount p q =
     let under = mul-mono binary64 (p .clear) (q .clear) (plus-finite 1 (pos 53)) (plus-finite 1 (pos 53)) (p .small) (q .small) in
     let product = finite-below (mul-plus binary64 (p .clear) (q .clear)) (finite-fin false _ _) under in
@@ -115,12 +114,10 @@ charge h (finite-fin false m e) l k (plus-finite n g) s =
     (le-trans (number-fin false n g) (number-fin false 1 (pos packetPower)) (number-fin false 1 (pos debtPower)) s tt))
     (plus-credit (round-fits binary64 false (a - b) c) (finite-below (round-plus binary64 (a - b) c) (finite-fin false m e) (left-below binary64 m e g b h)))
 
-abbrev pub refilledOf : Float → Float → Float → Float → Float
-refilledOf tokens elapsed rate cap = minimumOf (add binary64 tokens (div binary64 (mul binary64 elapsed rate) eightThousand)) cap
-
 -- a credit that is refilled, capped and charged stays one
 pub credit-stays : {tokens elapsed rate cap len : Float} → Credit tokens → Bounded elapsed → Bounded rate → PlusFinite cap → T (fits binary64 cap) → PlusFinite len → T (fits binary64 len)
     → T (le len longestPacket) → Credit (sub binary64 (refilledOf tokens elapsed rate cap) len)
+unfolding refilledOf
 credit-stays t e r c cf l lf ll =
     let w = capped (refill (t .fit) (t .finite) (t .floor) (amount e r)) c cf in
     charge (w .fit) (w .finite) (w .floor) lf l ll
@@ -140,14 +137,12 @@ taken-below {x} f (plus-finite n g) h (plus-finite m e) l =
 
 pub credit-capped : {tokens elapsed rate cap len : Float} → Credit tokens → Bounded elapsed → Bounded rate → PlusFinite cap → T (fits binary64 cap) → PlusFinite len
     → T (le (sub binary64 (refilledOf tokens elapsed rate cap) len) cap)
+unfolding refilledOf
 credit-capped t e r c cf l =
     let full = refill (t .fit) (t .finite) (t .floor) (amount e r) in
     taken-below (capped full c cf .finite) l cf c (minimum-below (refilled-number full) (plus-finite-number c) .1)
 
 -- ---- what a debt waits
-
-abbrev pub waitOf : Float → Float → Float
-waitOf tokens rate = div binary64 (mul binary64 (neg tokens) eightThousand) rate
 
 -- what is below 0 and finite is owed
 owed : {x : Float} → Finite x → T (lt x nought) → PlusFinite (neg x)
@@ -157,4 +152,5 @@ owed (finite-fin true m e) h = plus-finite m e
 
 -- what a debt waits is a number not below 0
 pub wait-plus : {tokens : Float} (n : ℕ) (g : ℤ) → Credit tokens → T (lt tokens nought) → 0 < n → Plus (waitOf tokens (fin false n g))
+unfolding waitOf ofInt
 wait-plus n g t l h = div-plus binary64 n g (mul-plus binary64 (owed (t .finite) l) (plus-finite 125 (pos 6))) h

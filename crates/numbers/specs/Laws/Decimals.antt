@@ -14,6 +14,7 @@ use lib.Ieee.Order.{round-mono}
 use lib.Ieee.Positive.{den, positive-of-value}
 use lib.Ieee.Scale.{round-same}
 use Rattle.numbers.specs.Whole.{whole}
+use Rattle.numbers.specs.Limits.{maxExact}
 use Rattle.numbers.specs.Digits.{decimalValue}
 use Rattle.numbers.specs.Laws.Kinds.{Number, Finite, finite-fin, PlusFinite, plus-finite, value-plus, plus-finite-number}
 use Rattle.numbers.specs.Laws.NotNan.{div-fin, round-plus}
@@ -25,7 +26,7 @@ use Rattle.numbers.specs.Laws.Bounded.{nought, whole-bounded}
 use Rattle.numbers.specs.Laws.Nearest.{distance, round-nearest}
 
 -- a quotient of whole numbers up to 2 ^ 53 is their fraction, rounded once
-pub whole-div : (n d : ℕ) → n ≤ 2 ^ 53 → d ≤ 2 ^ 53 → 0 < d → div binary64 (whole n) (whole d) ≡ round binary64 false n d
+pub whole-div : (n d : ℕ) → n ≤ maxExact → d ≤ maxExact → 0 < d → div binary64 (whole n) (whole d) ≡ round binary64 false n d
 whole-div n d h k D =
     let v = whole-value binary64 n h in
     let w = whole-value binary64 d k in
@@ -44,22 +45,22 @@ ten-pos : (k : ℕ) → 0 < 10 ^ k
 ten-pos k = one-le-pow k 10 (lit< tt)
 
 -- a decimal's value is the fraction n / 10 ^ k, rounded once
-pub decimal-rounded : (n k : ℕ) → n ≤ 2 ^ 53 → k ≤ 15 → decimalValue n k ≡ round binary64 false n (10 ^ k)
+pub decimal-rounded : (n k : ℕ) → n ≤ maxExact → k ≤ 15 → decimalValue n k ≡ round binary64 false n (10 ^ k)
 unfolding decimalValue
 decimal-rounded n k h l = whole-div n (10 ^ k) h (le-trans (pow-le-pow-right (lit< tt) l) (lit≤ tt)) (ten-pos k)
 
 -- it is not above a whole number that n is not above
-pub decimal-below : (n m k : ℕ) → n ≤ m → m ≤ 2 ^ 53 → k ≤ 15 → T (le (decimalValue n k) (whole m))
+pub decimal-below : (n m k : ℕ) → n ≤ m → m ≤ maxExact → k ≤ 15 → T (le (decimalValue n k) (whole m))
 unfolding ofInt
 decimal-below n m k h j l = rw (decimal-rounded n k (le-trans h j) l) (round-mono binary64 n (10 ^ k) m 1 (ten-pos k) (lit< tt) (mul-le-mul h (ten-pos k)))
 
 -- it is finite, and its sign bit is clear
-pub decimal-clear : (n k : ℕ) → n ≤ 2 ^ 53 → k ≤ 15 → PlusFinite (decimalValue n k)
+pub decimal-clear : (n k : ℕ) → n ≤ maxExact → k ≤ 15 → PlusFinite (decimalValue n k)
 unfolding ofInt
-decimal-clear n k h l = finite-below (rw (decimal-rounded n k h l) (round-plus binary64 n (10 ^ k))) (finite-fin false 1 (pos 53)) (decimal-below n (2 ^ 53) k h (lit≤ tt) l)
+decimal-clear n k h l = finite-below (rw (decimal-rounded n k h l) (round-plus binary64 n (10 ^ k))) (finite-fin false 1 (pos 53)) (decimal-below n maxExact k h (lit≤ tt) l)
 
 -- no finite float y, of either sign, is nearer to n / 10 ^ k: |decimalValue n k - n / 10 ^ k| ≤ |y - n / 10 ^ k|, both sides times 10 ^ k and the denominators of the two floats
-pub decimal-nearest : (n k : ℕ) {y : Float} → n ≤ 2 ^ 53 → k ≤ 15 → Finite y → T (fits binary64 y)
+pub decimal-nearest : (n k : ℕ) {y : Float} → n ≤ maxExact → k ≤ 15 → Finite y → T (fits binary64 y)
     → distance (decimalValue n k) n (10 ^ k) * den y ≤ distance y n (10 ^ k) * den (decimalValue n k)
 decimal-nearest n k h l q f =
     rw (decimal-rounded n k h l) (round-nearest binary64 n (10 ^ k) (ten-pos k) (rw (decimal-rounded n k h l) at (decimal-clear n k h l)) q f)

@@ -11,6 +11,7 @@ use lib.Ieee.Back.{round-whole}
 use lib.Ieee.Exact.{HasValue}
 use lib.Ieee.Order.{transfer}
 use Rattle.numbers.specs.Whole.{whole}
+use Rattle.numbers.specs.Limits.{maxExact}
 use Rattle.numbers.specs.Laws.Kinds.{PlusFinite, plus-finite, value-plus, plus-finite-number}
 use Rattle.numbers.specs.Laws.Order.{same-test, ltb-is-not-leb, lt-is-not-le, le→cross, cross→le}
 
@@ -36,8 +37,8 @@ pub whole-value : (f : Format) (n : ℕ) → n ≤ 2 ^ prec f → HasValue (ofIn
 unfolding ofInt
 whole-value f n h = round-whole f false n h
 
-pub whole-le : (n m : ℕ) → n ≤ 2 ^ 53 → m ≤ 2 ^ 53 → le (whole n) (whole m) ≡ leb n m
+pub whole-le : (n m : ℕ) → n ≤ maxExact → m ≤ maxExact → le (whole n) (whole m) ≡ leb n m
 whole-le n m h k = le-values _ _ n 1 m 1 (lit< tt) (lit< tt) (whole-value binary64 n h) (whole-value binary64 m k) ∙ ap₂ leb (mul-one n) (mul-one m)
 
-pub whole-lt : (n m : ℕ) → n ≤ 2 ^ 53 → m ≤ 2 ^ 53 → lt (whole n) (whole m) ≡ ltb n m
+pub whole-lt : (n m : ℕ) → n ≤ maxExact → m ≤ maxExact → lt (whole n) (whole m) ≡ ltb n m
 whole-lt n m h k = lt-values _ _ n 1 m 1 (lit< tt) (lit< tt) (whole-value binary64 n h) (whole-value binary64 m k) ∙ ap₂ ltb (mul-one n) (mul-one m)

@@ -59,7 +59,7 @@ add-minus-zero f g h (plus-fin m e) =
     untaken : (a u d g : ℕ) → (a * g - 0 * u * d) * d ≡ a * (d * g)
     untaken a u d g = simp (zero-mul, sub-zero) (omega arith)
 
--- a number with a clear sign bit keeps it and is not less, when what is not below 0 is added to it
-pub add-keeps : (f : Format) {x y : Float} → T (fits f x) → Plus x → NotBelow y → Plus (add f x y) × T (le x (add f x y))
-add-keeps f h p (not-below-plus q) = (add-plus f p q, add-not-below-plus f h p q)
-add-keeps f h p (minus-zero g) = rw (add-minus-zero f g h p) (p, le-self (plus-number p))
+-- a number with a clear sign bit has one still and is not less, when what is not below 0 is added to it
+pub add-clear : (f : Format) {x y : Float} → T (fits f x) → Plus x → NotBelow y → Plus (add f x y) × T (le x (add f x y))
+add-clear f h p (not-below-plus q) = (add-plus f p q, add-not-below-plus f h p q)
+add-clear f h p (minus-zero g) = rw (add-minus-zero f g h p) (p, le-self (plus-number p))

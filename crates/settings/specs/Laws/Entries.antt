@@ -2,16 +2,17 @@
 use mathlib.Core.Path.{_≡_, refl, ap}
 use mathlib.Core.Bool.{Bool, true, false, _&&_, cond}
 use mathlib.Core.List.{List, [], _∷_, _++_, map}
-use Prim.Native.Nat.{ℕ, zero, suc, _+_, _^_, _<_, _≤_}
+use Prim.Native.Nat.{ℕ, zero, suc, _+_, _<_, _≤_}
 use native.Mathlib.Numerals.{add-one}
 use native.Mathlib.Omega.{arith}
 use borrow.Author.Tests.{le-leb, lt-ltb, ltb-true, leb-false}
 use lib.Dec.{leb, ltb, eqb}
 use lib.ListN.{length, take, set, length-set}
 use lib.Seq.{take-suc-set}
+use Rattle.numbers.specs.Limits.{maxExact, maxEntries}
 use Rattle.numbers.specs.Refusals.{refusedWindow, refusedColon, refusedEntries, refusedKillParts}
 use Rattle.values.specs.declared.whole.Whole.{Whole}
-use Rattle.values.specs.Bytes.{has, before, behind, colon}
+use Rattle.values.specs.Bytes.{has, beforeFirst, behindFirst, colon}
 use Rattle.values.specs.Laws.Digits.{bounded-or}
 use Rattle.values.specs.Laws.Parts.{three-or}
 use Rattle.values.specs.Parts.{split}
@@ -36,7 +37,7 @@ unfolding boundsOf
 bounds-or P taken turned a b =
     bounded-or (λ (x : Whole). P (boundsOf x (boundOf b))) (λ s h. bounded-or (λ (y : Whole). P (boundsOf (Whole.Number s) y)) (λ e k. go s e h k (leb e s) refl) turned _) turned _
   where
-    go : (s e : ℕ) → s ≤ 2 ^ 53 → e ≤ 2 ^ 53 → (t : Bool) → leb e s ≡ t → P (cond t (WindowRead.Refused refusedWindow) (WindowRead.Taken (record { «start_ms» = s; «end_ms» = e })))
+    go : (s e : ℕ) → s ≤ maxExact → e ≤ maxExact → (t : Bool) → leb e s ≡ t → P (cond t (WindowRead.Refused refusedWindow) (WindowRead.Taken (record { «start_ms» = s; «end_ms» = e })))
     go s e h k true l = turned refusedWindow
     go s e h k false l = taken _ (both _ _ (lt-ltb s e (leb-false e s l)) (both _ _ (bounded-is s h) (bounded-is e k)))
 
@@ -47,9 +48,9 @@ styled-or P taken turned w h (StyleRead.Refused k) = turned k
 styled-or P taken turned w h (StyleRead.Taken s) = taken _ h
 
 -- a blackout is a window that holds
-held-or : (P : KillRead → Type 0) → ((k : TcpKill) → isKill k ≡ true → P (KillRead.Taken k)) → ((k : ℕ) → P (KillRead.Refused k)) → (v : List ℕ) (t : Bool) → P (heldOf (cond t (boundsOf (boundOf (before colon v)) (boundOf (behind colon v))) (WindowRead.Refused refusedColon)))
+held-or : (P : KillRead → Type 0) → ((k : TcpKill) → isKill k ≡ true → P (KillRead.Taken k)) → ((k : ℕ) → P (KillRead.Refused k)) → (v : List ℕ) (t : Bool) → P (heldOf (cond t (boundsOf (boundOf (beforeFirst colon v)) (boundOf (behindFirst colon v))) (WindowRead.Refused refusedColon)))
 unfolding heldOf
-held-or P taken turned v true = bounds-or (λ (w : WindowRead). P (heldOf w)) (λ w h. taken (record { window = w; style = Hold }) h) turned (before colon v) (behind colon v)
+held-or P taken turned v true = bounds-or (λ (w : WindowRead). P (heldOf w)) (λ w h. taken (record { window = w; style = Hold }) h) turned (beforeFirst colon v) (behindFirst colon v)
 held-or P taken turned v false = turned refusedColon
 
 entry-or : (P : KillRead → Type 0) → ((k : TcpKill) → isKill k ≡ true → P (KillRead.Taken k)) → ((k : ℕ) → P (KillRead.Refused k)) → (kind : EntryKind) (v : List ℕ) → P (parseEntryOf kind v)
@@ -66,18 +67,18 @@ all-last (x ∷ l) k h i = both _ _ (both-true (isKill x) (allOf isKill l) h .0)
 
 -- what holds of the entries gathered so far
 record Judged (e : Entries) : Type 0 where
-  size : length (e .kills) ≡ 128
-  most : e .count ≤ 128
+  size : length (e .kills) ≡ maxEntries
+  most : e .count ≤ maxEntries
   each : allOf isKill (take (e .count) (e .kills)) ≡ true
 
 none-judged : (k : ℕ) → Judged (noEntries k)
 unfolding noEntries
 none-judged k = record { size = refl; most = omega arith; each = refl }
 
-entered-judged : (e : Entries) → Judged e → (k : TcpKill) → isKill k ≡ true → (t : Bool) → ltb (e .count) 128 ≡ t → Judged (cond t (record { kills = set (e .kills) (e .count) k; count = e .count + 1; refusal = 0 }) (noEntries refusedEntries))
+entered-judged : (e : Entries) → Judged e → (k : TcpKill) → isKill k ≡ true → (t : Bool) → ltb (e .count) maxEntries ≡ t → Judged (cond t (record { kills = set (e .kills) (e .count) k; count = e .count + 1; refusal = 0 }) (noEntries refusedEntries))
 entered-judged e j k h false l = none-judged refusedEntries
 entered-judged e j k h true l =
-    let room : e .count < 128 = ltb-true (e .count) 128 l in
+    let room : e .count < maxEntries = ltb-true (e .count) maxEntries l in
     record {
       size = rw length-set (j .size);
       most = omega arith;
@@ -89,7 +90,7 @@ unfolding withEntry
 with-judged e j kind v = go (eqb (e .refusal) 0)
   where
     go : (t : Bool) → Judged (cond t (entered e (parseEntryOf kind v)) e)
-    go true = entry-or (λ (r : KillRead). Judged (entered e r)) (λ k h. entered-judged e j k h (ltb (e .count) 128) refl) none-judged kind v
+    go true = entry-or (λ (r : KillRead). Judged (entered e r)) (λ k h. entered-judged e j k h (ltb (e .count) maxEntries) refl) none-judged kind v
     go false = j
 
 from-judged : (kind : EntryKind) (vs : List (List ℕ)) (e : Entries) → Judged e → Judged (entriesFrom kind e vs)
@@ -101,7 +102,7 @@ unfolding entriesOf
 entries-judged kind vs = from-judged kind vs (noEntries 0) (none-judged 0)
 
 pub kills-judged : (kind : EntryKind) (vs : List (List ℕ)) → isList isKill (entriesOf kind vs .kills) (entriesOf kind vs .count) ≡ true
-kills-judged kind vs = let j = entries-judged kind vs in both _ _ (le-leb _ 128 (j .most)) (j .each)
+kills-judged kind vs = let j = entries-judged kind vs in both _ _ (le-leb _ maxEntries (j .most)) (j .each)
 
 -- the windows of kills pass as the kills do
 all-windows : (n : ℕ) (l : List TcpKill) → allOf isWindow (take n (map windowOf l)) ≡ allOf isKill (take n l)

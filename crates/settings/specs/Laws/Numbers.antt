@@ -2,7 +2,7 @@
 use mathlib.Core.Path.{_≡_, refl}
 use mathlib.Core.Bool.{Bool, true, false, cond, not}
 use mathlib.Core.List.{List}
-use Prim.Native.Nat.{ℕ, _^_, _≤_}
+use Prim.Native.Nat.{ℕ, _≤_}
 use native.Mathlib.Omega.{arith}
 use borrow.Author.Tests.{le-leb, ne-eqb}
 use lib.Ieee.{lt, le, ofInt}
@@ -10,6 +10,7 @@ use Rattle.args.specs.Arguments.{Value, absent, given}
 use Rattle.numbers.specs.Digits.{decimalValue}
 use Rattle.numbers.specs.Laws.Decimals.{decimal-time, decimal-clear, probability-within, whole-zero}
 use Rattle.numbers.specs.Laws.Kinds.{plus-finite-number}
+use Rattle.numbers.specs.Limits.{maxExact}
 use Rattle.numbers.specs.Refusals.{refusedProbability}
 use Rattle.numbers.specs.Whole.{whole}
 use Rattle.values.specs.declared.decimal.Decimal.{Decimal}
@@ -56,18 +57,18 @@ unfolding settingOf parseSettingOf parseF64MsOf floatOf ofDecimal
 time-judged absent = zero-time
 time-judged (given v) = decimal-or (λ (d : Decimal). isTime (floatOf (ofDecimal d)) ≡ true) decimal-is-time zero-time _ _
 
-pub bounded-is : (n : ℕ) → n ≤ 2 ^ 53 → isBounded n ≡ true
-bounded-is n h = le-leb n (2 ^ 53) h
+pub bounded-is : (n : ℕ) → n ≤ maxExact → isBounded n ≡ true
+bounded-is n h = le-leb n maxExact h
 
-pub positive-is : (n : ℕ) → (n ≡ 0 → ⊥) → n ≤ 2 ^ 53 → isPositive n ≡ true
+pub positive-is : (n : ℕ) → (n ≡ 0 → ⊥) → n ≤ maxExact → isPositive n ≡ true
 positive-is n z h = rw (ne-eqb n 0 z) (bounded-is n h)
 
-pub count-judged : (other : ℕ) → other ≤ 2 ^ 53 → (v : Value) → isBounded (wholeOf other (settingOf Count v)) ≡ true
+pub count-judged : (other : ℕ) → other ≤ maxExact → (v : Value) → isBounded (wholeOf other (settingOf Count v)) ≡ true
 unfolding settingOf parseSettingOf wholeOf ofWhole
 count-judged other h absent = bounded-is other h
 count-judged other h (given v) = bounded-or (λ (w : Whole). isBounded (wholeOf other (ofWhole w)) ≡ true) bounded-is (λ k. bounded-is other h) (parseU64Of v)
 
-pub positive-judged : (other : ℕ) → other ≤ 2 ^ 53 → (v : Value) → isBounded (wholeOf other (settingOf Positive v)) ≡ true
+pub positive-judged : (other : ℕ) → other ≤ maxExact → (v : Value) → isBounded (wholeOf other (settingOf Positive v)) ≡ true
 unfolding settingOf parseSettingOf wholeOf ofWhole
 positive-judged other h absent = bounded-is other h
 positive-judged other h (given v) = positive-or (λ (w : Whole). isBounded (wholeOf other (ofWhole w)) ≡ true) (λ n z l. bounded-is n l) (λ k. bounded-is other h) (parseU64Of v)

@@ -1,4 +1,4 @@
--- An arrival keeps a sound state, and a packet that it enqueues is not due before it.
+-- A sound state stays one in an arrival, and a packet that it enqueues is not due before it.
 use mathlib.Core.Path.{_≡_}
 use mathlib.Core.Bool.{Bool, true, false}
 use Prim.Native.Nat.{ℕ, _≤_}
@@ -14,13 +14,13 @@ use Rattle.numbers.specs.Laws.Transitive.{le-trans}
 use Rattle.numbers.specs.Laws.Extremes.{chosen-has, le-self}
 use Rattle.numbers.specs.Laws.Bounded.{Bounded, nought}
 use Rattle.numbers.specs.Laws.Products.{finite-below}
-use Rattle.numbers.specs.Laws.Zero.{NotBelow, not-below-plus, not-below, above-zero, add-keeps}
+use Rattle.numbers.specs.Laws.Zero.{NotBelow, not-below-plus, not-below, above-zero, add-clear}
 use Rattle.numbers.specs.Laws.Credit.{Credit}
 use Rattle.draws.specs.declared.rng.Rng.{Rng}
 use Rattle.draws.specs.Laws.Fraction.{draw-plus}
 use Rattle.values.specs.Whole.{isBounded}
 use Rattle.settings.specs.Judgement.{isTime}
-use Rattle.options.specs.Judgement.{isRate}
+use Rattle.judgement.specs.Scalars.{isRate}
 use Rattle.options.specs.declared.config.RateOption.{RateOption}
 use Rattle.options.specs.declared.config.RateOption.the-variants.{Absent, Present}
 use Rattle.steps.specs.declared.arrival.Arrival.{Arrival}
@@ -32,11 +32,11 @@ use Rattle.steps.specs.declared.due.Due.{Due}
 use Rattle.steps.specs.declared.gate.Gate.{Gate}
 use Rattle.steps.specs.declared.gate.Gate.the-variants.{Open, Reset, Held, Blackout}
 use Rattle.steps.specs.Chance.{chanceOf}
-use Rattle.steps.specs.Burst.{burstOf}
+use Rattle.steps.specs.Burst.{burstLossOf}
 use Rattle.steps.specs.Mtu.{exceedsOf}
 use Rattle.steps.specs.Bucket.{lastRefillOf}
 use Rattle.steps.specs.Due.{jitteredOf, reorderedOf, waitedOf, owedOf}
-use Rattle.steps.specs.Arrival.{stoppedOf, drawnOf, scheduledOf, mtuOf, geOf, passedOf, arrivedOf}
+use Rattle.steps.specs.Arrival.{stoppedOf, drawnOf, scheduledOf, fromMtu, fromGe, passedOf, arrivedOf}
 use Rattle.steps.specs.Laws.Credit.{longestPlanned, charged-credit, wait-clear}
 
 -- what refusal 29 lets through of the settings without their lists
@@ -69,7 +69,7 @@ DueFrom now DropBlackout = Unit {0}
 DueFrom now DropKillHold = Unit {0}
 DueFrom now KillRst = Unit {0}
 
--- what an arrival keeps
+-- what holds after an arrival
 abbrev Sound : Float → Arrival → Type 0
 Sound now a = SoundState (a .state) × DueFrom now (a .decision)
 
@@ -103,11 +103,11 @@ module _ {now : Float} (fit : T (fits binary64 now)) (bounded : Bounded now) whe
   -- a due that is put off by what is not below 0
   later-by : {due by : Float} → From now due → NotBelow by → From now (add binary64 due by)
   later-by {due} {by} d b =
-      let kept = add-keeps binary64 (d .fit) (d .clear) b in
+      let more = add-clear binary64 (d .fit) (d .clear) b in
       record {
         fit = add-fits binary64 due by;
-        clear = kept .0;
-        later = le-trans (plus-finite-number (bounded .clear)) (plus-number (d .clear)) (plus-number (kept .0)) (d .later) (kept .1);
+        clear = more .0;
+        later = le-trans (plus-finite-number (bounded .clear)) (plus-number (d .clear)) (plus-number (more .0)) (d .later) (more .1);
       }
 
   jittered-from : (g : Rng) {due : Float} (jitter : Float) → isTime jitter ≡ true → From now due → From now (jitteredOf g due jitter .«due_ms»)
@@ -149,14 +149,14 @@ module _ {now : Float} (fit : T (fits binary64 now)) (bounded : Bounded now) whe
           owed-from rate (sound .rate) credit put-off,
         )
 
-    mtu-sound : (s : ArrivalState) → SoundState s → Sound now (mtuOf c s now len)
-    unfolding mtuOf stoppedOf
+    mtu-sound : (s : ArrivalState) → SoundState s → Sound now (fromMtu c s now len)
+    unfolding fromMtu stoppedOf
     mtu-sound s h = cond-has (Sound now) (exceedsOf (c .mtu) len) (h, tt) (scheduled-sound s h)
 
-    ge-sound : (s : ArrivalState) → SoundState s → Sound now (geOf c s now len)
-    unfolding geOf stoppedOf
+    ge-sound : (s : ArrivalState) → SoundState s → Sound now (fromGe c s now len)
+    unfolding fromGe stoppedOf
     ge-sound s h =
-        let burst = burstOf (s .rng) (s .«ge_bad») (c .ge) in
+        let burst = burstLossOf (s .rng) (s .«ge_bad») (c .ge) in
         let after = drawn-sound s (burst .rng) (burst .bad) h in
         cond-has (Sound now) (burst .hit) (after, tt) (mtu-sound _ after)
 

@@ -10,7 +10,7 @@ use lib.Dec.{eqb, leb·suc-suc}
 use lib.ListN.{length, take, drop, length-take}
 use Rattle.values.specs.declared.colons.Colons.{Colons}
 use Rattle.values.specs.declared.colons.Colons.the-variants.{Two, Other}
-use Rattle.values.specs.Bytes.{upTo, has, before, behind, colon}
+use Rattle.values.specs.Bytes.{upTo, has, beforeFirst, behindFirst, colon}
 use Rattle.values.specs.Parts.{onto, split, three, twoLengths, colonsOf}
 use Rattle.values.specs.Laws.Scan.{up-to-le}
 
@@ -20,7 +20,7 @@ onto-cond x false l s r = refl
 
 -- the first part, and the parts of what is behind it
 abbrev parted : ℕ → List ℕ → List (List ℕ)
-parted b s = cond (has b s) (before b s ∷ split b (behind b s)) (s ∷ [])
+parted b s = cond (has b s) (beforeFirst b s ∷ split b (behindFirst b s)) (s ∷ [])
 
 split-cons : (b x : ℕ) (s : List ℕ) (t : Bool) → eqb x b ≡ t → split b s ≡ parted b s → split b (x ∷ s) ≡ parted b (x ∷ s)
 split-cons b x s true h ih = rw (h, lt-ltb 0 (suc (length s)) (omega arith))
@@ -52,18 +52,18 @@ module _ {A : Type 0} (f : List ℕ → List ℕ → List ℕ → A) (other : A)
   more k a b c (x ∷ s) = more-cond a b c x (eqb x k) (split k s) (split k s)
 
   -- three parts, from the text that follows each colon
-  pub three-parts : (k : ℕ) (v w x : List ℕ) (s t u : Bool) → w ≡ behind k v → x ≡ behind k w → has k v ≡ s → has k w ≡ t → has k x ≡ u
-      → three f other (split k v) ≡ cond s (cond t (cond u other (f (before k v) (before k w) x)) other) other
+  pub three-parts : (k : ℕ) (v w x : List ℕ) (s t u : Bool) → w ≡ behindFirst k v → x ≡ behindFirst k w → has k v ≡ s → has k w ≡ t → has k x ≡ u
+      → three f other (split k v) ≡ cond s (cond t (cond u other (f (beforeFirst k v) (beforeFirst k w) x)) other) other
   three-parts k v w x false t u ew ex h i j = rw (split-at k v, h)
   three-parts k v w x true false u ew ex h i j = rw (split-at k v, h, ← ew, split-at k w, i)
   three-parts k v w x true true false ew ex h i j = rw (split-at k v, h, ← ew, split-at k w, i, ← ex, split-at k x, j)
   three-parts k v w x true true true ew ex h i j = rw (split-at k v, h, ← ew, split-at k w, i, ← ex, split-at k x, j, more k)
 
-before-length : (b : ℕ) (s : List ℕ) → length (before b s) ≡ upTo b s
+before-length : (b : ℕ) (s : List ℕ) → length (beforeFirst b s) ≡ upTo b s
 before-length b s = omega (arith, length-take (upTo b s) s, up-to-le b s)
 
 -- how many colons there are
-module _ (v w x : List ℕ) (ew : w ≡ behind colon v) (ex : x ≡ behind colon w) where
+module _ (v w x : List ℕ) (ew : w ≡ behindFirst colon v) (ex : x ≡ behindFirst colon w) where
   pub no-colon : length v ≤ upTo colon v → colonsOf v ≡ Other
   unfolding colonsOf
   no-colon h = three-parts twoLengths Other colon v w x _ _ _ ew ex (le-ltb _ _ h) refl refl
@@ -88,17 +88,17 @@ partsBy f other v (Two p q) = f (take p v) (take q (drop (p + 1) v)) (drop (q + 
 partsBy f other v Other = other
 
 module _ {A : Type 0} (f : List ℕ → List ℕ → List ℕ → A) (other : A) (v : List ℕ) where
-  cases : (s t u : Bool) → has colon v ≡ s → has colon (behind colon v) ≡ t → has colon (behind colon (behind colon v)) ≡ u
+  cases : (s t u : Bool) → has colon v ≡ s → has colon (behindFirst colon v) ≡ t → has colon (behindFirst colon (behindFirst colon v)) ≡ u
       → three f other (split colon v) ≡ partsBy f other v (colonsOf v)
   unfolding colonsOf
   cases s t u h i j = three-parts f other colon v _ _ s t u refl refl h i j ∙ told s t u ∙ ap (partsBy f other v) (sym (three-parts twoLengths Other colon v _ _ s t u refl refl h i j))
     where
-      told : (s t u : Bool) → cond s (cond t (cond u other (f (before colon v) (before colon (behind colon v)) (behind colon (behind colon v)))) other) other
-          ≡ partsBy f other v (cond s (cond t (cond u Other (twoLengths (before colon v) (before colon (behind colon v)) (behind colon (behind colon v)))) Other) Other)
+      told : (s t u : Bool) → cond s (cond t (cond u other (f (beforeFirst colon v) (beforeFirst colon (behindFirst colon v)) (behindFirst colon (behindFirst colon v)))) other) other
+          ≡ partsBy f other v (cond s (cond t (cond u Other (twoLengths (beforeFirst colon v) (beforeFirst colon (behindFirst colon v)) (behindFirst colon (behindFirst colon v)))) Other) Other)
       told false t u = refl
       told true false u = refl
       told true true true = refl
-      told true true false = rw (before-length colon v, before-length colon (behind colon v))
+      told true true false = rw (before-length colon v, before-length colon (behindFirst colon v))
 
   pub three-told : three f other (split colon v) ≡ partsBy f other v (colonsOf v)
   three-told = cases _ _ _ refl refl refl

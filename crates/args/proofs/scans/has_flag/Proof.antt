@@ -5,7 +5,7 @@ use Prim.Native.Nat.{_-_}
 use denote.Ref.{now}
 use lib.ListN.{length, drop}
 use Rattle.args.specs.Arguments.{Gathered, gathered, flagIn}
-use Rattle.args.specs.Places.{goesOn}
+use Rattle.args.specs.Places.{hasNext}
 use Rattle.args.specs.Laws.Turn.{onward, turn-of}
 use Rattle.args.specs.Laws.Steps.{nearer}
 use Rattle.args.proofs.scans.has_flag.Statement.{statement}
@@ -51,7 +51,7 @@ enum-told-4 : tie.Need-enum-told-4 Inv-loop μ-loop
 enum-told-4 c = search needs
 
 loop-less : tie.Need-loop-less Inv-loop μ-loop
-loop-less c = nearer (now (c .before .before .before .before .before .before .before .args .text)) (c .before .before .before .before .loop .cursor .at) (c .before .before .before .next .result) (c .before .before .before .next .ensures) (ap goesOn (c .enum-told4 .given .1))
+loop-less c = nearer (now (c .before .before .before .before .before .before .before .args .text)) (c .before .before .before .before .loop .cursor .at) (c .before .before .before .next .result) (c .before .before .before .next .ensures) (ap hasNext (c .enum-told4 .given .1))
 
 loop-again : tie.Need-loop-again Inv-loop μ-loop
 loop-again c = turn (c .before .before .before) ∙ rw (c .enum-told4 .given .1)

@@ -5,7 +5,7 @@ use Prim.Native.Nat.{_-_}
 use denote.Ref.{now}
 use lib.ListN.{length, drop}
 use Rattle.args.specs.Arguments.{Gathered, gathered}
-use Rattle.args.specs.Places.{goesOn}
+use Rattle.args.specs.Places.{hasNext}
 use Rattle.args.specs.Laws.Turn.{onward, turn-of}
 use Rattle.args.specs.Laws.Steps.{nearer}
 use Rattle.args.proofs.scans.refusal_of.Statement.{statement}
@@ -45,7 +45,7 @@ enum-told-2 : tie.Need-enum-told-2 Inv-loop μ-loop
 enum-told-2 c = search needs
 
 loop-less : tie.Need-loop-less Inv-loop μ-loop
-loop-less c = nearer (now (c .before .before .before .before .before .before .before .args .text)) (c .before .before .before .before .loop .cursor .at) (c .before .before .before .next .result) (c .before .before .before .next .ensures) (ap goesOn (c .enum-told2 .given .1))
+loop-less c = nearer (now (c .before .before .before .before .before .before .before .args .text)) (c .before .before .before .before .loop .cursor .at) (c .before .before .before .next .result) (c .before .before .before .next .ensures) (ap hasNext (c .enum-told2 .given .1))
 
 loop-again : tie.Need-loop-again Inv-loop μ-loop
 loop-again c = turn (c .before .before .before) ∙ rw (c .enum-told2 .given .1)
@@ -54,7 +54,7 @@ enum-told-3 : tie.Need-enum-told-3 Inv-loop μ-loop
 enum-told-3 c = search needs
 
 loop-less-2 : tie.Need-loop-less-2 Inv-loop μ-loop
-loop-less-2 c = nearer (now (c .before .before .before .before .before .before .before .args .text)) (c .before .before .before .before .loop .cursor .at) (c .before .before .before .next .result) (c .before .before .before .next .ensures) (ap goesOn (c .enum-told3 .given .1))
+loop-less-2 c = nearer (now (c .before .before .before .before .before .before .before .args .text)) (c .before .before .before .before .loop .cursor .at) (c .before .before .before .next .result) (c .before .before .before .next .ensures) (ap hasNext (c .enum-told3 .given .1))
 
 loop-again-2 : tie.Need-loop-again-2 Inv-loop μ-loop
 loop-again-2 c = turn (c .before .before .before) ∙ rw (c .enum-told3 .given .1)

@@ -1,5 +1,5 @@
 -- The counter by its contract.
-use Rattle.device.specs.Arrive.{overflowsOf}
+use Rattle.engine.specs.Changes.{withOverflow}
 use borrow.Author.Needs.{needs}
 use Rattle.device.proofs.arrive.moved.Statement.{statement}
 use Rattle.device.proofs.arrive.moved.Tie as tie
@@ -8,7 +8,7 @@ overflows-requires : tie.Need-overflows-requires
 overflows-requires c κs = search needs
 
 returns : tie.Need-returns
-unfolding overflowsOf
+unfolding withOverflow
 returns c = rw (c .overflows .ensures)
 
 pub moved-spec : {M : Type 1} → statement M

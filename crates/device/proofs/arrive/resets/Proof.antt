@@ -1,5 +1,5 @@
 -- One counter changes.
-use Rattle.device.specs.Arrive.{resetsOf}
+use Rattle.accounts.specs.Accountant.{resetsOf}
 use mathlib.Core.Path.{refl}
 use borrow.Author.Needs.{needs}
 use Rattle.device.proofs.arrive.resets.Statement.{statement}

@@ -1,5 +1,5 @@
 -- The parts by their contracts.
-use Rattle.device.specs.Parts.{leavingAccounted}
+use Rattle.device.specs.Release.{accountedOf}
 use borrow.Author.Needs.{needs}
 use Rattle.device.proofs.release.accounted.Statement.{statement}
 use Rattle.device.proofs.release.accounted.Tie as tie
@@ -11,7 +11,7 @@ told-requires : tie.Need-told-requires
 told-requires c κs = search needs
 
 returns : tie.Need-returns
-unfolding leavingAccounted
+unfolding accountedOf
 returns c = rw (c .told .ensures, c .before .before .on-send .ensures)
 
 pub accounted-spec : {M : Type 1} → statement M

@@ -1,5 +1,5 @@
 -- The answer of the accounts says which case it is.
-use Rattle.device.specs.Parts.{toldBy}
+use Rattle.device.specs.Release.{toldOf}
 use borrow.Author.Needs.{needs}
 use Rattle.device.proofs.release.told.Statement.{statement}
 use Rattle.device.proofs.release.told.Tie as tie
@@ -11,11 +11,11 @@ enum-told-2 : tie.Need-enum-told-2
 enum-told-2 c = search needs
 
 returns : tie.Need-returns
-unfolding toldBy
+unfolding toldOf
 returns c = rw (c .enum-told .given .1)
 
 returns-2 : tie.Need-returns-2
-unfolding toldBy
+unfolding toldOf
 returns-2 c = rw (c .enum-told2 .given .1)
 
 pub told-spec : {M : Type 1} → statement M

@@ -1,5 +1,5 @@
 -- The judgement of each part.
-use Rattle.judgement.specs.Laws.Parts.{settings-parts}
+use Rattle.judgement.specs.Settings.{isSettingsOf}
 use borrow.Author.Needs.{needs}
 use Rattle.engine.proofs.refusal.passes.Statement.{statement}
 use Rattle.engine.proofs.refusal.passes.Tie as tie
@@ -17,7 +17,8 @@ are-tcp-kills-requires : tie.Need-are-tcp-kills-requires
 are-tcp-kills-requires c κs = search needs
 
 returns : tie.Need-returns
-returns c = rw (c .are-tcp-kills .ensures, c .before .are-blackouts .ensures, c .before .before .are-scalars .ensures, c .before .before .before .scalars-of .ensures) (settings-parts (c .before .before .before .before .args .cfg))
+unfolding isSettingsOf
+returns c = rw (c .are-tcp-kills .ensures, c .before .are-blackouts .ensures, c .before .before .are-scalars .ensures, c .before .before .before .scalars-of .ensures)
 
 pub passes-spec : {M : Type 1} → statement M
 passes-spec =

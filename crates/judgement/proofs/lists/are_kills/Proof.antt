@@ -6,6 +6,7 @@ use mathlib.Core.Path.{_≡_, sym, ap, _∙_}
 use mathlib.Core.Bool.{_&&_}
 use Prim.Native.Nat.{_+_, _-_, _≤_}
 use lib.ListN.{length, take, drop}
+use Rattle.numbers.specs.Limits.{maxEntries}
 use Rattle.numbers.specs.Laws.Counted.{counted-step, counted-end}
 use Rattle.settings.specs.Judgement.{isKill, allOf}
 use Rattle.settings.specs.Windows.{noWindow}
@@ -43,7 +44,7 @@ turn : (c : tie.After-is-window Inv-loop μ-loop)
 turn c =
     let at = c .before .before .before .before in
     let a = at .before .args in
-    let many : length (a .t1) ≡ 128 = search (at .before .good) in
+    let many : length (a .t1) ≡ maxEntries = search (at .before .good) in
     let step = counted-step (a .t1) (a .count) (at .loop .i) outside (c .before .before .before .loop-test .taken) (omega (arith, many, at .before .pre)) in
     at .loop .inv .1 ∙ ap (allOf isKill) step ∙ rw (← (c .is-window .ensures))
 

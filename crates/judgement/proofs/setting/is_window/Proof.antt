@@ -4,7 +4,8 @@ use borrow.Author.Tests.{leb-true, lt-ltb, le-ltb, le-leb}
 use native.Mathlib.Omega.{arith}
 use mathlib.Core.Path.{_≡_, refl, sym}
 use mathlib.Core.Bool.{Bool, true, false, _&&_, and-false}
-use Prim.Native.Nat.{ℕ, _<_, _^_}
+use Prim.Native.Nat.{ℕ, _<_}
+use Rattle.numbers.specs.Limits.{maxExact}
 use Rattle.values.specs.Whole.{isBounded}
 use Rattle.judgement.proofs.setting.is_window.Statement.{statement}
 use Rattle.judgement.proofs.setting.is_window.Tie as tie
@@ -16,7 +17,7 @@ bounded-before : (s e : ℕ) → s < e → isBounded e ≡ (isBounded s && isBou
 bounded-before s e h = go (isBounded e) refl
   where
     go : (b : Bool) → isBounded e ≡ b → b ≡ (isBounded s && b)
-    go true is = sym (rw (le-leb s (2 ^ 53) (omega (arith, leb-true e (2 ^ 53) is))))
+    go true is = sym (rw (le-leb s maxExact (omega (arith, leb-true e maxExact is))))
     go false is = sym (and-false (isBounded s))
 
 returns : tie.Need-returns

@@ -16,12 +16,12 @@ limits-of-requires c κs = search needs
 schedules-of-requires : tie.Need-schedules-of-requires
 schedules-of-requires c κs = search needs
 
-joined-requires : tie.Need-joined-requires
-joined-requires c κs = search needs
+combined-requires : tie.Need-combined-requires
+combined-requires c κs = search needs
 
 returns : tie.Need-returns
 unfolding directionOf
-returns c = rw (c .joined .ensures, c .before .schedules-of .ensures, c .before .before .limits-of .ensures, c .before .before .before .delays-of .ensures, c .before .before .before .before .losses-of .ensures)
+returns c = rw (c .combined .ensures, c .before .schedules-of .ensures, c .before .before .limits-of .ensures, c .before .before .before .delays-of .ensures, c .before .before .before .before .losses-of .ensures)
 
 pub direction-of-spec : {M : Type 1} → statement M
 direction-of-spec =
@@ -31,5 +31,5 @@ direction-of-spec =
     delays-of-requires
     limits-of-requires
     schedules-of-requires
-    joined-requires
+    combined-requires
     returns)

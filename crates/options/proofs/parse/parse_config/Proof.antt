@@ -15,8 +15,8 @@ returns : tie.Need-returns
 unfolding parseOf
 returns c = rw (← (c .before .before .text-refusal .ensures), ne-eqb _ _ (c .before .if1 .taken)) (c .refused-with .ensures)
 
-scalars-of-requires : tie.Need-scalars-of-requires
-scalars-of-requires c κs = search needs
+line-scalars-requires : tie.Need-line-scalars-requires
+line-scalars-requires c κs = search needs
 
 slice-aggregate-direction-of : tie.Need-slice-aggregate-direction-of
 slice-aggregate-direction-of c = search needs
@@ -30,12 +30,12 @@ slice-aggregate-direction-of-2 c = search needs
 direction-of-requires-2 : tie.Need-direction-of-requires-2
 direction-of-requires-2 c κs = search needs
 
-settled-requires : tie.Need-settled-requires
-settled-requires c κs = search needs
+configured-requires : tie.Need-configured-requires
+configured-requires c κs = search needs
 
 returns-2 : tie.Need-returns-2
 unfolding parseOf
-returns-2 c = rw (← (c .before .before .before .before .before .before .before .text-refusal .ensures), eq-eqb _ _ (c .before .before .before .before .before .before .if1 .left), c .settled .ensures, c .before .direction-of2 .ensures, c .before .before .before .direction-of .ensures, c .before .before .before .before .before .scalars-of .ensures)
+returns-2 c = rw (← (c .before .before .before .before .before .before .before .text-refusal .ensures), eq-eqb _ _ (c .before .before .before .before .before .before .if1 .left), c .configured .ensures, c .before .direction-of2 .ensures, c .before .before .before .direction-of .ensures, c .before .before .before .before .before .line-scalars .ensures)
 
 pub parse-config-spec : {M : Type 1} → statement M
 parse-config-spec =
@@ -44,10 +44,10 @@ parse-config-spec =
     text-refusal-requires
     refused-with-requires
     returns
-    scalars-of-requires
+    line-scalars-requires
     slice-aggregate-direction-of
     direction-of-requires
     slice-aggregate-direction-of-2
     direction-of-requires-2
-    settled-requires
+    configured-requires
     returns-2)

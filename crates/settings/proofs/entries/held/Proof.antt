@@ -1,4 +1,4 @@
--- A refusal is kept, a window gets the style that holds.
+-- A refusal stays, a window gets the style that holds.
 use Rattle.settings.specs.Lists.{heldOf}
 use borrow.Author.Needs.{needs}
 use Rattle.settings.proofs.entries.held.Statement.{statement}

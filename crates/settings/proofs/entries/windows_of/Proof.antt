@@ -4,6 +4,7 @@ use native.Mathlib.Omega.{arith}
 use mathlib.Core.Path.{sym, ap, _∙_, _≡_}
 use lib.ListN.{length-set, length, take}
 use lib.Seq.{take-all}
+use Rattle.numbers.specs.Limits.{maxEntries}
 use Rattle.settings.specs.Laws.Lists.{copied}
 use mathlib.Core.List.{map}
 use Prim.Native.Nat.{_-_, _≤_}
@@ -12,10 +13,10 @@ use Rattle.settings.proofs.entries.windows_of.Statement.{statement}
 use Rattle.settings.proofs.entries.windows_of.Tie as tie
 
 abbrev Inv-loop : tie.InvT-loop
-Inv-loop kills windows₀ i₀ windows i = (i ≤ 128) × ((length windows ≡ 128) × (take i windows ≡ map windowOf (take i kills)))
+Inv-loop kills windows₀ i₀ windows i = (i ≤ maxEntries) × ((length windows ≡ maxEntries) × (take i windows ≡ map windowOf (take i kills)))
 
 abbrev μ-loop : tie.MeasureT-loop
-μ-loop kills windows₀ i₀ windows i = 128 - i
+μ-loop kills windows₀ i₀ windows i = maxEntries - i
 
 no-window-requires : tie.Need-no-window-requires Inv-loop μ-loop
 no-window-requires c κs = search needs
@@ -45,7 +46,7 @@ loop-again : tie.Need-loop-again Inv-loop μ-loop
 loop-again c =
     let at = c .before .before .before in
     let kills = at .before .before .args .t1 in
-    let many : length kills ≡ 128 = search (at .before .before .good) in
+    let many : length kills ≡ maxEntries = search (at .before .before .good) in
     let inv = at .loop .inv in
     (search needs, (rw length-set (inv .1 .0), copied windowOf kills (at .loop .windows) (at .loop .i) _ (omega (arith, many)) (omega (arith, inv .1 .0)) (inv .1 .1)))
 
@@ -53,8 +54,8 @@ returns : tie.Need-returns Inv-loop μ-loop
 returns c =
     let at = c .before in
     let kills = at .before .before .args .t1 in
-    let many : length kills ≡ 128 = search (at .before .before .good) in
-    let all : at .loop .i ≡ 128 = omega (arith, at .loop .inv .0, c .loop-test .left) in
+    let many : length kills ≡ maxEntries = search (at .before .before .good) in
+    let all : at .loop .i ≡ maxEntries = omega (arith, at .loop .inv .0, c .loop-test .left) in
     sym (take-all (at .loop .i) (at .loop .windows) (omega (arith, at .loop .inv .1 .0))) ∙ at .loop .inv .1 .1 ∙ ap (map windowOf) (take-all (at .loop .i) kills (omega (arith, many)))
 
 pub windows-of-spec : {M : Type 1} → statement M

@@ -15,8 +15,8 @@ enum-told c = search needs
 enum-known-rate : tie.Need-enum-known-rate
 enum-known-rate c = search needs
 
-larger-requires : tie.Need-larger-requires
-larger-requires c κs = search needs
+default-burst-requires : tie.Need-default-burst-requires
+default-burst-requires c κs = search needs
 
 returns-2 : tie.Need-returns-2
 unfolding bucketCapacityOf rateCapacityOf
@@ -24,8 +24,8 @@ returns-2 c = rw (le-ltb _ _ (c .before .before .if1 .left), c .enum-told .given
 
 returns-3 : tie.Need-returns-3
 unfolding bucketCapacityOf rateCapacityOf
-returns-3 c = rw (le-ltb _ _ (c .before .before .before .before .if1 .left), c .before .before .rate .given .1, c .larger .ensures)
+returns-3 c = rw (le-ltb _ _ (c .before .before .before .before .if1 .left), c .before .before .rate .given .1, c .default-burst .ensures)
 
 pub bucket-capacity-spec : {M : Type 1} → statement M
 bucket-capacity-spec =
-    tie.close (tie.spec returns enum-told enum-known-rate larger-requires returns-2 returns-3)
+    tie.close (tie.spec returns enum-told enum-known-rate default-burst-requires returns-2 returns-3)

@@ -1,5 +1,5 @@
 -- The same operations in the same order.
-use Rattle.steps.specs.Bucket.{refilledOf}
+use Rattle.numbers.specs.Credit.{refilledOf}
 use lib.Ieee.{ofInt, ofBits}
 use borrow.Author.Needs.{needs}
 use Rattle.steps.proofs.bucket.refilled.Statement.{statement}

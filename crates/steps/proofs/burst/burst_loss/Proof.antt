@@ -1,5 +1,5 @@
 -- One draw for the flip, and the rest is the second draw's.
-use Rattle.steps.specs.Burst.{burstOf}
+use Rattle.steps.specs.Burst.{burstLossOf}
 use borrow.Author.Needs.{needs}
 use Rattle.steps.proofs.burst.burst_loss.Statement.{statement}
 use Rattle.steps.proofs.burst.burst_loss.Tie as tie
@@ -23,11 +23,11 @@ lost-requires : tie.Need-lost-requires
 lost-requires c κs = search needs
 
 returns : tie.Need-returns
-unfolding burstOf
+unfolding burstLossOf
 returns c = rw (c .enum-told .given .1)
 
 returns-2 : tie.Need-returns-2
-unfolding burstOf
+unfolding burstLossOf
 returns-2 c = rw (c .before .before .before .before .before .before .before .ge .given .1, c .lost .ensures, c .before .turned .ensures, c .before .before .before .flip-chance .ensures, c .before .before .before .before .before .next-f64 .ensures)
 
 pub burst-loss-spec : {M : Type 1} → statement M

@@ -3,20 +3,20 @@ use denote.Ref.{now}
 use mathlib.Core.Path.{_≡_, refl, sym, ap, _∙_}
 use Prim.Native.Nat.{ℕ, _+_, _<_}
 use lib.ListN.{length, drop}
-use Rattle.values.specs.Bytes.{upTo, behind, colon}
+use Rattle.values.specs.Bytes.{upTo, behindFirst, colon}
 use Rattle.values.specs.Laws.Parts.{no-colon, one-colon, two-colons, more-colons}
 use borrow.Author.Needs.{needs}
 use Rattle.values.proofs.colons.colons_of.Statement.{statement}
 use Rattle.values.proofs.colons.colons_of.Tie as tie
 
 -- what is behind the first colon, and behind the second
-behind-is : (c : tie.After-up-to2) → now (c .before .behind .result) ≡ behind colon (now (c .before .before .before .before .before .args .v))
+behind-is : (c : tie.After-up-to2) → now (c .before .behind .result) ≡ behindFirst colon (now (c .before .before .before .before .before .args .v))
 behind-is c = c .before .behind .ensures ∙ ap (λ (p : ℕ). drop (p + 1) (now (c .before .before .before .before .before .args .v))) (c .before .before .before .up-to .ensures)
 
 first-is : (c : tie.After-up-to2) → upTo colon (now (c .before .before .before .before .before .args .v)) < length (now (c .before .before .before .before .before .args .v))
 first-is c = rw (← (c .before .before .before .up-to .ensures)) (c .before .before .if1 .left)
 
-last-is : (c : tie.After-behind2) → now (c .behind2 .result) ≡ behind colon (now (c .before .before .before .behind .result))
+last-is : (c : tie.After-behind2) → now (c .behind2 .result) ≡ behindFirst colon (now (c .before .before .before .behind .result))
 last-is c = c .behind2 .ensures ∙ ap (λ (q : ℕ). drop (q + 1) (now (c .before .before .before .behind .result))) (c .before .before .up-to2 .ensures)
 
 second-is : (c : tie.After-behind2) → upTo colon (now (c .before .before .before .behind .result)) < length (now (c .before .before .before .behind .result))

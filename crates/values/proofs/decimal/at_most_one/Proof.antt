@@ -1,4 +1,4 @@
--- The case of a number is judged, a refusal is kept.
+-- The case of a number is judged, a refusal stays.
 use lib.Ieee.{ofInt, ofBits}
 use Rattle.values.specs.Decimal.{atMostOne}
 use borrow.Author.Needs.{needs}

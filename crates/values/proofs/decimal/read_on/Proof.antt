@@ -1,4 +1,4 @@
--- A refusal is kept.
+-- A refusal stays.
 use borrow.Author.Needs.{needs}
 use Rattle.values.proofs.decimal.read_on.Statement.{statement}
 use Rattle.values.proofs.decimal.read_on.Tie as tie

@@ -1,4 +1,4 @@
--- The case of a number is judged, a refusal is kept.
+-- The case of a number is judged, a refusal stays.
 use borrow.Author.Tests.{le-leb, lt-leb}
 use Rattle.values.specs.Whole.{atMost}
 use borrow.Author.Needs.{needs}

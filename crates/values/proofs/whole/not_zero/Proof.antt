@@ -1,4 +1,4 @@
--- The case of a number is judged, a refusal is kept.
+-- The case of a number is judged, a refusal stays.
 use borrow.Author.Tests.{eq-eqb, ne-eqb}
 use Rattle.values.specs.Whole.{notZero}
 use borrow.Author.Needs.{needs}

@@ -11,7 +11,7 @@ use lib.ListN.{length, drop}
 use Rattle.values.specs.Laws.Scan.{step, end, same-length}
 use Rattle.values.specs.Bytes.{same}
 use Rattle.args.specs.declared.cursor.Found.the-variants.{At}
-use Rattle.args.specs.Places.{goesOn, hitAt, hitOf}
+use Rattle.args.specs.Places.{hasNext, hitAt, hitOf}
 use Rattle.args.specs.Laws.Steps.{nearer}
 use Rattle.args.specs.Laws.Hits.{hit-turn}
 use Rattle.args.specs.Laws.Keys.{same-append}
@@ -33,11 +33,11 @@ abbrev μ-args2 : tie.MeasureT-args2
 turn : (c : tie.After-next Inv-loop μ-loop Inv-args2 μ-args2) → hitOf (now (c .before .before .before .before .before .args .text)) (now (c .before .before .before .before .before .args .prefix) ++ now (c .before .before .before .before .before .args .name)) (c .before .before .before .before .before .args .self .at) ≡ hitAt (now (c .before .before .before .before .before .args .text)) (now (c .before .before .before .before .before .args .prefix) ++ now (c .before .before .before .before .before .args .name)) (c .next .result) (c .next .result .arg) (hitOf (now (c .before .before .before .before .before .args .text)) (now (c .before .before .before .before .before .args .prefix) ++ now (c .before .before .before .before .before .args .name)) (c .next .result .cursor .at))
 turn c = c .before .args2 .inv ∙ hit-turn (now (c .before .before .before .before .before .args .text)) (now (c .before .before .before .before .before .args .prefix) ++ now (c .before .before .before .before .before .args .name)) (c .before .args2 .self .at) (c .next .result) (c .next .ensures)
 
-nearer-on : (c : tie.After-next Inv-loop μ-loop Inv-args2 μ-args2) → goesOn (c .next .result .arg) ≡ true → length (now (c .before .before .before .before .before .args .text)) - c .next .result .cursor .at < length (now (c .before .before .before .before .before .args .text)) - c .before .args2 .self .at
+nearer-on : (c : tie.After-next Inv-loop μ-loop Inv-args2 μ-args2) → hasNext (c .next .result .arg) ≡ true → length (now (c .before .before .before .before .before .args .text)) - c .next .result .cursor .at < length (now (c .before .before .before .before .before .args .text)) - c .before .args2 .self .at
 nearer-on c h = nearer (now (c .before .before .before .before .before .args .text)) (c .before .args2 .self .at) (c .next .result) (c .next .ensures) h
 
 nearer-pair : (c : tie.After-arg Inv-loop μ-loop Inv-args2 μ-args2) → length (now (c .before .before .before .before .before .before .before .before .args .text)) - c .before .before .before .next .result .cursor .at < length (now (c .before .before .before .before .before .before .before .before .args .text)) - c .before .before .before .before .args2 .self .at
-nearer-pair c = nearer-on (c .before .before .before) (ap goesOn (c .arg .given .1))
+nearer-pair c = nearer-on (c .before .before .before) (ap hasNext (c .arg .given .1))
 
 turn-pair : (c : tie.After-part Inv-loop μ-loop Inv-args2 μ-args2) → hitOf (now (c .before .before .before .before .before .before .before .before .before .before .args .text)) (now (c .before .before .before .before .before .before .before .before .before .before .args .prefix) ++ now (c .before .before .before .before .before .before .before .before .before .before .args .name)) (c .before .before .before .before .before .before .before .before .before .before .args .self .at) ≡ cond (same (now (c .part .result)) (now (c .before .before .before .before .before .before .before .before .before .before .args .prefix) ++ now (c .before .before .before .before .before .before .before .before .before .before .args .name))) (record { cursor = c .before .before .before .before .before .next .result .cursor; found = At (c .before .before .arg .given .0 .1 .1 .0) (c .before .before .arg .given .0 .1 .1 .1 .0) }) (hitOf (now (c .before .before .before .before .before .before .before .before .before .before .args .text)) (now (c .before .before .before .before .before .before .before .before .before .before .args .prefix) ++ now (c .before .before .before .before .before .before .before .before .before .before .args .name)) (c .before .before .before .before .before .next .result .cursor .at))
 turn-pair c = turn (c .before .before .before .before .before) ∙ rw (c .before .before .arg .given .1, ← (c .part .ensures))
@@ -68,7 +68,7 @@ enum-told-3 : tie.Need-enum-told-3 Inv-loop μ-loop Inv-args2 μ-args2
 enum-told-3 c = search needs
 
 args2-less : tie.Need-args2-less Inv-loop μ-loop Inv-args2 μ-args2
-args2-less c = nearer-on (c .before .before .before) (ap goesOn (c .enum-told3 .given .1))
+args2-less c = nearer-on (c .before .before .before) (ap hasNext (c .enum-told3 .given .1))
 
 args2-again : tie.Need-args2-again Inv-loop μ-loop Inv-args2 μ-args2
 args2-again c = turn (c .before .before .before) ∙ rw (c .enum-told3 .given .1)

@@ -1,5 +1,5 @@
 -- Each return by its step.
-use Rattle.device.proofs.ReleaseSteps.{release-refused, release-done, left-is}
+use Rattle.device.proofs.ReleaseSteps.{release-refused, release-done}
 use Rattle.queue.specs.Refusals.{slotWidth}
 use Rattle.queue.specs.Tables.{tables}
 use mathlib.Core.Path.{refl}
@@ -24,8 +24,8 @@ returns c =
 release-requires : tie.Need-release-requires
 release-requires c κs = search needs
 
-sent-requires : tie.Need-sent-requires
-sent-requires c κs = search needs
+sending-of-requires : tie.Need-sending-of-requires
+sending-of-requires c κs = search needs
 
 same-length : tie.Need-same-length
 same-length c = search needs
@@ -42,7 +42,7 @@ same-length-4 c = search needs
 returns-2 : tie.Need-returns-2
 returns-2 c =
     let a = c .before .before .before .before .before .before .before .before .before .before .before .before .before .before .before .before .before .before .before .before .before .before .before .before .before .before .before .before .before .before .before .args in
-    release-done slotWidth (a .self) (tables (a .win .now) (a .free .now) (a .dues .now) (a .seqs .now) (a .arrivals .now) (a .routes .now) (a .copy-ids .now) (a .lengths .now) (a .store .now)) (a .now-ms) _ _ _ (c .before .before .before .before .before .before .before .before .before .before .before .before .before .before .before .before .before .before .before .before .has-memory .ensures) (c .before .before .before .before .before .before .before .before .before .before .before .before .before .before .before .before .before .before .before .is-instant .ensures) (c .before .before .before .before .before .before .before .before .before .before .before .before .before .before .before .before .before .before .call-refusal .ensures) _ _ _ (c .before .before .before .before .before .before .before .before .before .before .before .before .before .before .before .before .before .if1 .left) (c .before .before .before .before .before .before .before .before .before .before .before .before .release .ensures) (left-is (c .before .before .before .before .before .before .before .before .before .before .before .before .before .before .before .before .before .before .before .before .before .before .before .before .before .before .before .before .before .before .before .args .self) _ _ _ (c .before .before .sent .ensures))
+    release-done slotWidth (a .self) (tables (a .win .now) (a .free .now) (a .dues .now) (a .seqs .now) (a .arrivals .now) (a .routes .now) (a .copy-ids .now) (a .lengths .now) (a .store .now)) (a .now-ms) _ _ _ (c .before .before .before .before .before .before .before .before .before .before .before .before .before .before .before .before .before .before .before .before .has-memory .ensures) (c .before .before .before .before .before .before .before .before .before .before .before .before .before .before .before .before .before .before .before .is-instant .ensures) (c .before .before .before .before .before .before .before .before .before .before .before .before .before .before .before .before .before .before .call-refusal .ensures) _ _ _ (c .before .before .before .before .before .before .before .before .before .before .before .before .before .before .before .before .before .if1 .left) (c .before .before .before .before .before .before .before .before .before .before .before .before .release .ensures) (c .before .before .sending-of .ensures)
 
 pub release-spec : {M : Type 1} → statement M
 release-spec =
@@ -53,7 +53,7 @@ release-spec =
     call-refusal-requires
     returns
     release-requires
-    sent-requires
+    sending-of-requires
     same-length
     same-length-2
     same-length-3

@@ -1,5 +1,5 @@
 -- The settings are judged first.
-use Rattle.engine.specs.Calls.{newOf}
+use Rattle.engine.specs.Calls.{newEngineOf}
 use borrow.Author.Tests.{not-true, not-false}
 use mathlib.Core.Path.{sym, _∙_}
 use borrow.Author.Needs.{needs}
@@ -16,14 +16,14 @@ fresh-requires : tie.Need-fresh-requires
 fresh-requires c κs = search needs
 
 returns : tie.Need-returns
-unfolding newOf
+unfolding newEngineOf
 returns c = rw (sym (c .before .before .before .is-settings .ensures) ∙ not-true _ (c .before .before .if1 .taken), c .fresh .ensures, c .before .default .ensures)
 
 fresh-requires-2 : tie.Need-fresh-requires-2
 fresh-requires-2 c κs = search needs
 
 returns-2 : tie.Need-returns-2
-unfolding newOf
+unfolding newEngineOf
 returns-2 c = rw (sym (c .before .before .is-settings .ensures) ∙ not-false _ (c .before .if1 .left), c .fresh2 .ensures)
 
 pub new-spec : {M : Type 1} → statement M

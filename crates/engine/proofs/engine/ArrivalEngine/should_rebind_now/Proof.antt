@@ -22,7 +22,7 @@ unfolding shouldRebindNowOf
 returns c = rw (← (c .before .before .is-instant .ensures), ← (c .before .judged .ensures), ne-eqb _ _ (c .if1 .taken))
 
 add-self : tie.Need-add-self
-add-self c = omega (arith, counter-below (c .before .before .before .before .before .before .before .before .args .self .«rebinds_done») (no-refusal (c .before .before .before .before .before .before .before .before .args .self) _ true (sym (c .before .before .before .before .before .before .judged .ensures) ∙ c .before .before .before .before .before .if1 .left) .rebinds))
+add-self c = omega (arith, counter-below (c .before .before .before .before .before .before .before .before .args .self .«rebinds_done») (no-refusal _ (c .before .before .before .before .before .before .before .before .args .self) _ true (sym (c .before .before .before .before .before .before .judged .ensures) ∙ c .before .before .before .before .before .if1 .left) .rebinds))
 
 float-of-requires : tie.Need-float-of-requires
 float-of-requires c κs = search needs

@@ -2,7 +2,7 @@
 use borrow.Author.Tests.{eq-eqb, ne-eqb}
 use native.Mathlib.Omega.{arith}
 use Rattle.engine.specs.Calls.{statsIncOverflowOf}
-use Rattle.engine.specs.Changes.{overflowedOf, withOthers}
+use Rattle.engine.specs.Changes.{withOverflow, withOthers}
 use Rattle.engine.specs.Laws.Refusals.{no-refusal}
 use mathlib.Core.Bool.{true}
 use mathlib.Core.Path.{sym, _∙_}
@@ -19,10 +19,10 @@ unfolding statsIncOverflowOf
 returns c = rw (← (c .before .judged .ensures), ne-eqb _ _ (c .if1 .taken))
 
 add-stats : tie.Need-add-stats
-add-stats c = omega (arith, small-stats (c .before .before .before .before .args .self .stats) (no-refusal (c .before .before .before .before .args .self) true true (sym (c .before .before .before .judged .ensures) ∙ c .before .before .if1 .left) .stats))
+add-stats c = omega (arith, small-stats (c .before .before .before .before .args .self .stats) (no-refusal _ (c .before .before .before .before .args .self) true true (sym (c .before .before .before .judged .ensures) ∙ c .before .before .if1 .left) .stats))
 
 returns-2 : tie.Need-returns-2
-unfolding statsIncOverflowOf overflowedOf withOthers
+unfolding statsIncOverflowOf withOverflow withOthers
 returns-2 c = rw (← (c .before .before .before .judged .ensures), eq-eqb _ _ (c .before .before .if1 .left))
 
 pub stats-inc-overflow-spec : {M : Type 1} → statement M

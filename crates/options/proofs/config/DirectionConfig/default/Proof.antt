@@ -1,6 +1,6 @@
 -- The lists are filled with the empty window and the kill of it.
 use lib.Ieee.{ofInt, ofBits}
-use Rattle.options.specs.Config.{defaultDirection}
+use Rattle.options.specs.Config.{directionWith, defaultDirection}
 use borrow.Author.Needs.{needs}
 use Rattle.options.proofs.config.DirectionConfig.default.Statement.{statement}
 use Rattle.options.proofs.config.DirectionConfig.default.Tie as tie
@@ -12,7 +12,7 @@ no-kill-requires : tie.Need-no-kill-requires
 no-kill-requires c κs = search needs
 
 returns : tie.Need-returns
-unfolding defaultDirection ofInt ofBits
+unfolding defaultDirection directionWith ofInt ofBits
 returns c = rw (c .no-kill .ensures, c .before .no-window .ensures)
 
 pub default-spec : {M : Type 1} → statement M

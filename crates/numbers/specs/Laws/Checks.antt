@@ -1,0 +1,31 @@
+-- Where no test fails all pass, and the other way round.
+use mathlib.Core.Path.{_≡_, refl}
+use mathlib.Core.Logic.{_≢_}
+use mathlib.Core.Bool.{Bool, true, false, cond}
+use mathlib.Core.List.{List, [], _∷_}
+use Prim.Native.Nat.{ℕ}
+use Rattle.numbers.specs.Checks.{Check, check, firstFailing}
+
+-- each test of a list passes
+abbrev pub AllPass : List Check → Type 0
+AllPass [] = Unit {0}
+AllPass (c ∷ cs) = (c .passes ≡ true) × AllPass cs
+
+-- no refusal of a list has the number 0
+abbrev pub AllNumbered : List Check → Type 0
+AllNumbered [] = Unit {0}
+AllNumbered (c ∷ cs) = (c .number ≢ 0) × AllNumbered cs
+
+pub none-failing : (cs : List Check) → AllNumbered cs → firstFailing cs ≡ 0 → AllPass cs
+unfolding firstFailing
+none-failing [] n h = tt
+none-failing (c ∷ cs) n h = go (c .passes) refl h (none-failing cs (n .1))
+  where
+    go : (b : Bool) → c .passes ≡ b → cond b (firstFailing cs) (c .number) ≡ 0 → (firstFailing cs ≡ 0 → AllPass cs) → AllPass (c ∷ cs)
+    go true p h rest = (p, rest h)
+    go false p h rest = absurd (n .0 h)
+
+pub all-passing : (cs : List Check) → AllPass cs → firstFailing cs ≡ 0
+unfolding firstFailing
+all-passing [] p = refl
+all-passing (c ∷ cs) p = rw (p .0) (all-passing cs (p .1))
