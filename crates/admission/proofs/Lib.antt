@@ -1,2 +1,1 @@
-pub mod CopySteps
 pub mod FollowSteps

@@ -14,9 +14,8 @@ use Rattle.tournament.specs.Growth.{Tree, tree}
 use Rattle.queue.specs.Tables.{Tables, tables, After, after, Rows, rows, rowsOf, writtenOf, treeOf}
 use Rattle.queue.specs.Refusals.{memoryOf, pushRefusal}
 use Rattle.queue.specs.Room.{hasRoom}
-use Rattle.queue.specs.Calls.{queue, nextSlot, oneMore, notPushed, enteredOf, enterCopyOf, toldOf, told, againOf, secondOf, enterCopiesOf, pushOf}
+use Rattle.queue.specs.Calls.{queue, nextSlot, oneMore, notPushed, AfterCopy, enteredOf, enterCopyOf, toldOf, told, againOf, secondOf, enterCopiesOf, pushOf}
 use Rattle.queue.specs.declared.queue.ImpairQueue.{ImpairQueue}
-use Rattle.queue.specs.declared.push.CopyEntered.{CopyEntered}
 use Rattle.queue.specs.declared.answers.Pushed.{Pushed}
 use Rattle.queue.proofs.RefusalSteps.{shortestIn, memory-is}
 
@@ -53,13 +52,13 @@ module _ (width : ℕ) (q : ImpairQueue) (t : Tables) (due arrival : Float) (rou
   once : enterCopyOf width q t due arrival route id bytes .gives .fits ≡ true → Once (enterCopyOf width q t due arrival route id bytes .gives .queue)
   unfolding enterCopyOf enteredOf
   once =
-      cond-has (λ (o : After CopyEntered). o .gives .fits ≡ true → Once (o .gives .queue)) (fitsOf (q .cap) (q .leaves) (nextSlot q (t .free)))
+      cond-has (λ (o : AfterCopy). o .gives .fits ≡ true → Once (o .gives .queue)) (fitsOf (q .cap) (q .leaves) (nextSlot q (t .free)))
       (λ h. record { held-one = refl; opened-one = refl; next-one = refl })
       (λ (h : false ≡ true). absurd (let z : _≡_ {A = ℕ} 0 1 = cc in omega arith))
 
   -- ---- both copies
 
-  module _ (duplicated : Bool) (o : After CopyEntered) (e : o ≡ enterCopyOf width q t due arrival route id bytes) where
+  module _ (duplicated : Bool) (o : AfterCopy) (e : o ≡ enterCopyOf width q t due arrival route id bytes) where
     pub first-only : (x : Pushed) → not (againOf duplicated (o .gives)) ≡ true → x ≡ toldOf (o .gives) (q .«next_seq») 1
         → after x (o .memory) ≡ enterCopiesOf width q t due arrival route id duplicated bytes
     unfolding enterCopiesOf secondOf
@@ -69,7 +68,7 @@ module _ (width : ℕ) (q : ImpairQueue) (t : Tables) (due arrival : Float) (rou
         ∙ ap (secondOf width (q .«next_seq») due arrival route duplicated bytes) e
 
     module _ (h : not (againOf duplicated (o .gives)) ≡ false) where
-      pub both-copies : (two : After CopyEntered) (x : Pushed) → two ≡ enterCopyOf width (o .gives .queue) (o .memory) due arrival route 1 bytes → x ≡ toldOf (two .gives) (q .«next_seq») 2
+      pub both-copies : (two : AfterCopy) (x : Pushed) → two ≡ enterCopyOf width (o .gives .queue) (o .memory) due arrival route 1 bytes → x ≡ toldOf (two .gives) (q .«next_seq») 2
           → after x (two .memory) ≡ enterCopiesOf width q t due arrival route id duplicated bytes
       unfolding enterCopiesOf secondOf
       both-copies two x e2 ex =
@@ -84,7 +83,7 @@ module _ (width : ℕ) (q : ImpairQueue) (t : Tables) (due arrival : Float) (rou
       second-needs hh hn =
           let again = not-false (againOf duplicated (o .gives)) h in
           let fit = (both-true (o .gives .fits) duplicated ((both-true (o .gives .fits && duplicated) _ again) .0)) .0 in
-          let one = subst (λ (x : After CopyEntered). x .gives .fits ≡ true → Once (x .gives .queue)) (sym e) once fit in
+          let one = subst (λ (x : AfterCopy). x .gives .fits ≡ true → Once (x .gives .queue)) (sym e) once fit in
           (omega (arith, one), omega (arith, one, hh), omega (arith, one, hn))
 
 -- ---- the call

@@ -68,12 +68,16 @@ oneMore q leaves = queue (q .cap) (q .held + 1) (q .«next_seq» + 1) leaves (ma
 abbrev pub notPushed : ImpairQueue → ℕ → Pushed
 notPushed q k = record { queue = q; answer = push.Refused k }
 
+-- the state after one copy, whether its slot was in range, and the tables
+abbrev pub AfterCopy : Type 0
+AfterCopy = After CopyEntered
+
 -- a copy stands in the tables with the next seq
-unfoldable pub enteredOf : ImpairQueue → Tree → List ℕ → Rows → After CopyEntered
+unfoldable pub enteredOf : ImpairQueue → Tree → List ℕ → Rows → AfterCopy
 enteredOf q g free r = after (record { queue = oneMore q (g .leaves); fits = true }) (joined g free r)
 
 -- one copy enters the next slot; where that is out of range, as only altered memory makes it, nothing is written
-unfoldable pub enterCopyOf : ℕ → ImpairQueue → Tables → Float → Float → ℕ → ℕ → List ℕ → After CopyEntered
+unfoldable pub enterCopyOf : ℕ → ImpairQueue → Tables → Float → Float → ℕ → ℕ → List ℕ → AfterCopy
 enterCopyOf width q t due arrival route id bytes =
     cond (fitsOf (q .cap) (q .leaves) (nextSlot q (t .free)))
     (enteredOf q (enterOf (q .cap) (nextSlot q (t .free)) due (q .«next_seq») (treeOf (q .leaves) t)) (t .free) (writtenOf width (rowsOf t) (nextSlot q (t .free)) arrival route id bytes))
@@ -83,7 +87,7 @@ enterCopyOf width q t due arrival route id bytes =
 unfoldable pub toldOf : CopyEntered → ℕ → ℕ → Pushed
 toldOf e seq copies = cond (e .fits) (record { queue = e .queue; answer = push.Entered seq copies }) (notPushed (e .queue) refusedKeeping)
 
-abbrev pub told : ℕ → ℕ → After CopyEntered → After Pushed
+abbrev pub told : ℕ → ℕ → AfterCopy → After Pushed
 told seq copies o = after (toldOf (o .gives) seq copies) (o .memory)
 
 -- whether a second copy enters behind the first: "A full queue refuses and uses no seq"
@@ -91,7 +95,7 @@ abbrev pub againOf : Bool → CopyEntered → Bool
 againOf duplicated e = e .fits && duplicated && not (eqb (e .queue .held) (e .queue .cap))
 
 -- what follows the first copy: "id 1 if duplicated, same due"
-unfoldable pub secondOf : ℕ → ℕ → Float → Float → ℕ → Bool → List ℕ → After CopyEntered → After Pushed
+unfoldable pub secondOf : ℕ → ℕ → Float → Float → ℕ → Bool → List ℕ → AfterCopy → After Pushed
 secondOf width seq due arrival route duplicated bytes o =
     cond (againOf duplicated (o .gives)) (told seq 2 (enterCopyOf width (o .gives .queue) (o .memory) due arrival route 1 bytes)) (told seq 1 o)
 
