@@ -1,1 +1,2 @@
+pub mod TallySteps
 pub mod FollowSteps

@@ -1,10 +1,10 @@
 -- What each count can be, whatever the state and the memory were: at most two copies enter or overflow, and at most one reset tears at most a queue's capacity.
 use mathlib.Core.Path.{_≡_, refl}
-use mathlib.Core.Bool.{Bool, true, false, _&&_}
+use mathlib.Core.Bool.{Bool, true, false, not, _&&_}
 use mathlib.Core.List.{List}
 use Prim.Native.Nat.{ℕ, _≤_}
 use native.Mathlib.Omega.{arith}
-use lib.Dec.{leb, eqb, eqb→eq}
+use lib.Dec.{T, leb, eqb, eqb→eq}
 use lib.Ieee.{Float}
 use lib.ListN.{length}
 use borrow.Author.Tests.{leb-true}
@@ -45,17 +45,20 @@ told-within duplicated seq copies o h = cond-has (Within duplicated) (o .gives .
 one-asked : (duplicated : Bool) → 1 ≤ askedOf duplicated
 one-asked duplicated = cond-has (λ (n : ℕ). 1 ≤ n) duplicated (omega arith) (omega arith)
 
-two-asked : (a duplicated b : Bool) → (a && duplicated && b) ≡ true → 2 ≤ askedOf duplicated
-two-asked a duplicated b h = rw ((both-true a duplicated ((both-true (a && duplicated) b h) .0)) .1) (omega arith)
+two-asked : (fits duplicated room : Bool) → T (fits && duplicated && room) → 2 ≤ askedOf duplicated
+two-asked true true room h = omega arith
+two-asked true false room h = absurd h
+two-asked false duplicated room h = absurd h
 
 pub push-within : (width : ℕ) (q : ImpairQueue) (t : Tables) (due arrival : Float) (route id : ℕ) (duplicated : Bool) (bytes : List ℕ)
     → Within duplicated (pushOf width q t due arrival route id duplicated bytes .gives)
 unfolding pushOf enterCopiesOf secondOf copiesIn
 push-within width q t due arrival route id duplicated bytes =
+    let one = enterCopyOf width q t due arrival route id bytes in
     cond-has (λ (o : After Pushed). Within duplicated (o .gives)) (eqb (pushRefusal width q (memoryOf width (q .cap) t) due arrival (length bytes)) 0)
-    (cond-when (λ (o : After Pushed). Within duplicated (o .gives)) (againOf duplicated (enterCopyOf width q t due arrival route id bytes .gives))
-    (λ h. told-within duplicated (q .«next_seq») 2 _ (two-asked _ duplicated _ h))
-    (told-within duplicated (q .«next_seq») 1 _ (one-asked duplicated)))
+    (cond-when (λ (o : After Pushed). Within duplicated (o .gives)) (againOf duplicated (one .gives))
+    (λ h. told-within duplicated (q .«next_seq») 2 (enterCopyOf width (one .gives .queue) (one .memory) due arrival route 1 bytes) (two-asked (one .gives .fits) duplicated (not (eqb (one .gives .queue .held) (one .gives .queue .cap))) h))
+    (told-within duplicated (q .«next_seq») 1 one (one-asked duplicated)))
     (omega arith)
 
 tallied-bounds : (p : PushAnswer) (q : ImpairQueue) (asked : ℕ) → copiesIn p ≤ asked → asked ≤ 2 → Bounds (talliedBy p q asked)
