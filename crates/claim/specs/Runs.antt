@@ -13,10 +13,11 @@ use denote.Triple.Clauses
 use Rattle.options.specs.declared.config.DirectionConfig.{DirectionConfig}
 use Rattle.options.specs.declared.outcome.Parsed.{Parsed}
 use Rattle.held.specs.Copies.{copy}
-use Rattle.queue.specs.Tables.{Tables, tables}
+use Rattle.queue.specs.Tables.{Tables}
 use Rattle.queue.specs.declared.answers.Queued.{Queued}
 use Rattle.queue.specs.declared.answers.ReleaseAnswer.{ReleaseAnswer}
 use Rattle.queue.specs.declared.answers.ReleaseAnswer.the-variants as left
+use Rattle.queue_laws.specs.Lent.{lentTables, leftByEntry, leftByExit}
 use Rattle.machine.specs.Calls.{Call, arrive as arriveCall, release as releaseCall, rebind as rebindCall, teardown as teardownCall, report as reportCall, Answer, released, noneDue, refused}
 use Rattle.device.specs.declared.answers.Arrived.{Arrived}
 use Rattle.device.specs.declared.answers.Created.{Created}
@@ -51,38 +52,6 @@ use Rattle.options.proofs.parse_config.Reads as parse
 use Rattle.options.proofs.parse_config.Kinds as parse-kinds
 use Rattle.claim.specs.Replies.{saidOfArrive, saidOfRebind, saidOfTeardown, saidOfReport}
 
--- ---- the tables that a call begins with, and those that it leaves: what is lent to be read stays
-
-abbrev pub createTables : (κs : Lifetimes.Lfts 9) → World.ArgsD create-fn.signature κs → Tables
-createTables κs a =
-    tables (now (a .1 .1 .1 .1 .0)) (now (a .1 .1 .1 .1 .1 .0)) (now (a .1 .1 .1 .1 .1 .1 .0)) (now (a .1 .1 .1 .1 .1 .1 .1 .0))
-    (now (a .1 .1 .1 .1 .1 .1 .1 .1 .0)) (now (a .1 .1 .1 .1 .1 .1 .1 .1 .1 .0)) (now (a .1 .1 .1 .1 .1 .1 .1 .1 .1 .1 .0))
-    (now (a .1 .1 .1 .1 .1 .1 .1 .1 .1 .1 .1 .0)) (now (a .1 .1 .1 .1 .1 .1 .1 .1 .1 .1 .1 .1 .0))
-
-abbrev pub arriveTables : (κs : Lifetimes.Lfts 10) → World.ArgsD arrive-fn.signature κs → Tables
-arriveTables κs a =
-    tables (now (a .1 .0)) (now (a .1 .1 .0)) (now (a .1 .1 .1 .0)) (now (a .1 .1 .1 .1 .0))
-    (now (a .1 .1 .1 .1 .1 .0)) (now (a .1 .1 .1 .1 .1 .1 .0)) (now (a .1 .1 .1 .1 .1 .1 .1 .0))
-    (now (a .1 .1 .1 .1 .1 .1 .1 .1 .0)) (now (a .1 .1 .1 .1 .1 .1 .1 .1 .1 .0))
-
-abbrev pub arriveLeaves : (κs : Lifetimes.Lfts 10) → World.ArgsD arrive-fn.signature κs → Clauses.AtExit (Kinds'.endedOf 10 arrive-kinds.ps arrive-kinds.r) κs → Tables
-arriveLeaves κs a s =
-    tables (now (s .1 .0)) (now (a .1 .1 .0)) (now (s .1 .1 .1 .0)) (now (s .1 .1 .1 .1 .0))
-    (now (s .1 .1 .1 .1 .1 .0)) (now (s .1 .1 .1 .1 .1 .1 .0)) (now (s .1 .1 .1 .1 .1 .1 .1 .0))
-    (now (s .1 .1 .1 .1 .1 .1 .1 .1 .0)) (now (s .1 .1 .1 .1 .1 .1 .1 .1 .1 .0))
-
-abbrev pub releaseTables : (κs : Lifetimes.Lfts 9) → World.ArgsD release-fn.signature κs → Tables
-releaseTables κs a =
-    tables (now (a .1 .0)) (now (a .1 .1 .0)) (now (a .1 .1 .1 .0)) (now (a .1 .1 .1 .1 .0))
-    (now (a .1 .1 .1 .1 .1 .0)) (now (a .1 .1 .1 .1 .1 .1 .0)) (now (a .1 .1 .1 .1 .1 .1 .1 .0))
-    (now (a .1 .1 .1 .1 .1 .1 .1 .1 .0)) (now (a .1 .1 .1 .1 .1 .1 .1 .1 .1 .0))
-
-abbrev pub releaseLeaves : (κs : Lifetimes.Lfts 9) → World.ArgsD release-fn.signature κs → Clauses.AtExit (Kinds'.endedOf 9 release-kinds.ps release-kinds.r) κs → Tables
-releaseLeaves κs a s =
-    tables (now (s .1 .0)) (now (s .1 .1 .0)) (now (s .1 .1 .1 .0)) (now (s .1 .1 .1 .1 .0))
-    (now (a .1 .1 .1 .1 .1 .0)) (now (a .1 .1 .1 .1 .1 .1 .0)) (now (a .1 .1 .1 .1 .1 .1 .1 .0))
-    (now (a .1 .1 .1 .1 .1 .1 .1 .1 .0)) (now (a .1 .1 .1 .1 .1 .1 .1 .1 .1 .0))
-
 -- ---- calls: `Learnt` is what the function's contract ensures of its arguments, its result and the tables at exit
 
 -- a call of `parse_config` on a text returned r
@@ -95,7 +64,7 @@ pub data Parses (text : List ℕ) : Parsed → Type 1 where
 -- a call of `create` over the tables t returned r
 pub data Creates (cfg : DirectionConfig) (seed salt cap : ℕ) (t : Tables) : Created → Type 1 where
   called : (κs : Lifetimes.Lfts 9) (a : World.ArgsD create-fn.signature κs) (r : World.ResD create-fn.signature κs) (s : Clauses.AtExit (Kinds'.endedOf 9 create-kinds.ps create-kinds.r) κs)
-      → a .0 ≡ cfg → a .1 .0 ≡ seed → a .1 .1 .0 ≡ salt → a .1 .1 .1 .0 ≡ cap → createTables κs a ≡ t
+      → a .0 ≡ cfg → a .1 .0 ≡ seed → a .1 .1 .0 ≡ salt → a .1 .1 .1 .0 ≡ cap → lentTables (a .1 .1 .1 .1) ≡ t
       → create.Learnt κs a r s
       → Creates cfg seed salt cap t r
 
@@ -103,20 +72,20 @@ pub data Creates (cfg : DirectionConfig) (seed salt cap : ℕ) (t : Tables) : Cr
 pub data Arrives (v : Device) (t : Tables) (instant : Float) (bytes : List ℕ) (route : ℕ) : Arrived → Tables → Type 1 where
   called : (κs : Lifetimes.Lfts 10) (a : World.ArgsD arrive-fn.signature κs) (r : World.ResD arrive-fn.signature κs) (s : Clauses.AtExit (Kinds'.endedOf 10 arrive-kinds.ps arrive-kinds.r) κs)
       → T (fits binary64 instant)
-      → a .0 ≡ v → arriveTables κs a ≡ t
+      → a .0 ≡ v → lentTables (a .1) ≡ t
       → a .1 .1 .1 .1 .1 .1 .1 .1 .1 .1 .0 ≡ instant
       → now (a .1 .1 .1 .1 .1 .1 .1 .1 .1 .1 .1 .0) ≡ bytes
       → a .1 .1 .1 .1 .1 .1 .1 .1 .1 .1 .1 .1 .0 ≡ route
       → arrive.Learnt κs a r s
-      → Arrives v t instant bytes route r (arriveLeaves κs a s)
+      → Arrives v t instant bytes route r (leftByEntry (lentTables (a .1)) (lentTables (s .1)))
 
 -- a call of `release` at an instant
 pub data Releases (v : Device) (t : Tables) (instant : Float) : Released → Tables → Type 1 where
   called : (κs : Lifetimes.Lfts 9) (a : World.ArgsD release-fn.signature κs) (r : World.ResD release-fn.signature κs) (s : Clauses.AtExit (Kinds'.endedOf 9 release-kinds.ps release-kinds.r) κs)
-      → a .0 ≡ v → releaseTables κs a ≡ t
+      → a .0 ≡ v → lentTables (a .1) ≡ t
       → a .1 .1 .1 .1 .1 .1 .1 .1 .1 .1 .0 ≡ instant
       → release.Learnt κs a r s
-      → Releases v t instant r (releaseLeaves κs a s)
+      → Releases v t instant r (leftByExit (lentTables (a .1)) (lentTables (s .1)))
 
 -- calls of `rebind`, `teardown` and `report`, which are lent no table
 pub data Rebinds (v : Device) (instant : Float) : Rebound → Type 1 where
@@ -151,22 +120,26 @@ pub data Says (store : List ℕ) : ReleaseAnswer → Answer → Type 1 where
   none : Says store left.NoneDue noneDue
   refuses : {k : ℕ} → Says store (left.Refused k) (refused k)
 
--- a run over a list of calls, with its answers
+-- ---- a call of any kind, and a run
+
+-- the call on the device v and the tables t was answered so, and left the device v′ and the tables t′
+pub data Answered (v : Device) (t : Tables) : Call → Answer → Device → Tables → Type 1 where
+  arrives : {t′ : Tables} {instant : Float} {bytes : List ℕ} {route : ℕ} {r : Arrived} → Arrives v t instant bytes route r t′
+      → Answered v t (arriveCall instant bytes route) (saidOfArrive (r .answer)) (r .device) t′
+  releases : {t′ : Tables} {instant : Float} {r : Released} {reply : Answer} → Releases v t instant r t′ → Says (t′ .store) (r .answer) reply
+      → Answered v t (releaseCall instant) reply (r .device) t′
+  rebinds : {instant : Float} {r : Rebound} → Rebinds v instant r → Answered v t (rebindCall instant) (saidOfRebind (r .answer)) (r .device) t
+  tearsDown : {r : TornDown} → TearsDown v r → Answered v t teardownCall (saidOfTeardown (r .answer)) (r .device) t
+  -- a report hands back no device: the host goes on with the one that it has
+  reports : {r : Reported} → Reports v r → Answered v t reportCall (saidOfReport r) v t
+
+-- a run over a list of calls, each on what the last one left, with its answers
 pub data Ran : Device → Tables → List Call → List Answer → Type 1 where
   done : {v : Device} {t : Tables} → Ran v t [] []
-  arrives : {v : Device} {t t′ : Tables} {instant : Float} {bytes : List ℕ} {route : ℕ} {r : Arrived} {cs : List Call} {rs : List Answer}
-      → Arrives v t instant bytes route r t′ → Ran (r .device) t′ cs rs
-      → Ran v t (arriveCall instant bytes route ∷ cs) (saidOfArrive (r .answer) ∷ rs)
-  releases : {v : Device} {t t′ : Tables} {instant : Float} {r : Released} {reply : Answer} {cs : List Call} {rs : List Answer}
-      → Releases v t instant r t′ → Says (t′ .store) (r .answer) reply → Ran (r .device) t′ cs rs
-      → Ran v t (releaseCall instant ∷ cs) (reply ∷ rs)
-  rebinds : {v : Device} {t : Tables} {instant : Float} {r : Rebound} {cs : List Call} {rs : List Answer}
-      → Rebinds v instant r → Ran (r .device) t cs rs
-      → Ran v t (rebindCall instant ∷ cs) (saidOfRebind (r .answer) ∷ rs)
-  tearsDown : {v : Device} {t : Tables} {r : TornDown} {cs : List Call} {rs : List Answer}
-      → TearsDown v r → Ran (r .device) t cs rs
-      → Ran v t (teardownCall ∷ cs) (saidOfTeardown (r .answer) ∷ rs)
-  -- a report hands back no device: the host goes on with the one that it has
-  reports : {v : Device} {t : Tables} {r : Reported} {cs : List Call} {rs : List Answer}
-      → Reports v r → Ran v t cs rs
-      → Ran v t (reportCall ∷ cs) (saidOfReport r ∷ rs)
+  next : {v v′ : Device} {t t′ : Tables} {c : Call} {a : Answer} {cs : List Call} {rs : List Answer}
+      → Answered v t c a v′ t′ → Ran v′ t′ cs rs → Ran v t (c ∷ cs) (a ∷ rs)
+
+-- each call of a run that was refused left the device and all nine tables as they were
+abbrev pub RefusedStay : {v : Device} {t : Tables} {cs : List Call} {rs : List Answer} → Ran v t cs rs → Type 0
+RefusedStay done = Unit {0}
+RefusedStay (next {v} {v′} {t} {t′} {c} {a} call ran) = ((k : ℕ) → a ≡ refused k → (v′ ≡ v) × (t′ ≡ t)) × RefusedStay ran

@@ -1,4 +1,4 @@
--- "Order is (due, seq); −0 and 0 tie."
+-- The order in which copies leave (document 01, Queue): by due and then by seq, where −0 ties with 0.
 use mathlib.Core.Bool.{Bool, true, false, cond}
 use Prim.Native.Nat.{ℕ}
 use lib.Dec.{ltb}

@@ -4,7 +4,8 @@ use mathlib.Core.Logic.{_⊎_}
 use mathlib.Core.Bool.{Bool}
 use mathlib.Core.List.{List, [], _∷_}
 use Prim.Native.Nat.{ℕ}
-use lib.Ieee.{Float}
+use lib.Dec.{T}
+use lib.Ieee.{Float, binary64, fits}
 use Rattle.numbers.specs.Refusals.{refusedInstant, refusedLength, refusedCounter}
 use Rattle.accounts.specs.declared.stats.DirectionStats.{DirectionStats}
 use Rattle.steps.specs.declared.decision.Decision.{Decision}
@@ -17,6 +18,18 @@ pub data Call : Type 0 where
   rebind : Float → Call
   teardown : Call
   report : Call
+
+-- the instants of the arrivals of a list of calls are numbers of binary64, as every f64 is
+abbrev pub Binary64Call : Call → Type 0
+Binary64Call (arrive now bytes route) = T (fits binary64 now)
+Binary64Call (release now) = Unit {0}
+Binary64Call (rebind now) = Unit {0}
+Binary64Call teardown = Unit {0}
+Binary64Call report = Unit {0}
+
+abbrev pub Binary64 : List Call → Type 0
+Binary64 [] = Unit {0}
+Binary64 (c ∷ cs) = Binary64Call c × Binary64 cs
 
 pub data Answer : Type 0 where
   -- "the decision and the numbers of copies entered, overflowed and torn by this call"

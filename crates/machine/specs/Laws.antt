@@ -1,6 +1,6 @@
 -- In order: Cases (what a step of each call can be), Held (the seqs of the held list go up), Count (demand 3's count), Own (each released copy is one that
 -- entered), Bare (bytes and route decide nothing), Refused (which refusals come and what they leave), Reports (what a report says is what was counted),
--- Due (a release takes the least of the copies that are due).
+-- Numbers (held dues are numbers).
 pub mod Cases
 pub mod Held
 pub mod Count
@@ -8,4 +8,4 @@ pub mod Own
 pub mod Bare
 pub mod Refused
 pub mod Reports
-pub mod Due
+pub mod Numbers

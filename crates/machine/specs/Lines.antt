@@ -39,7 +39,7 @@ use Rattle.engine.specs.Lines.{ArrivalLines, arrival-lines}
 use Rattle.machine.specs.Machine.{Machine, hostCreation, freshMachine, inRange}
 use Rattle.machine.specs.Calls.{Call, arrive, decided}
 use Rattle.machine.specs.Steps.{unless, enterCopy, enterCopies, follow, arriveStep, step, answers, afterAll}
-use Rattle.machine.specs.Tally.{tally, total}
+use Rattle.machine.specs.Tally.{total}
 
 -- settings that do nothing but duplicate every packet
 abbrev duplicating : DirectionConfig
@@ -73,7 +73,7 @@ one = arrive (whole 0) (1 ∷ 2 ∷ 3 ∷ []) 7 ∷ []
 pub record OverflowLines : Type 0 where
   pub answered : answers single one ≡ (decided (Enqueue (whole 0) true) 1 1 0 ∷ [])
   -- received 1, duplicates 1, overflow 1, and nothing else is counted
-  pub counted : total (answers single one) ≡ tally 1 0 0 0 0 0 1 1 0 0
+  pub counted : total (answers single one) ≡ record { received = 1; random = 0; ge = 0; mtu = 0; blackout = 0; reset = 0; duplicates = 1; overflow = 1; released = 0; torn = 0 }
   pub held : length (afterAll single one .held) ≡ 1
 
 overflow-lines : OverflowLines

@@ -16,7 +16,7 @@ use Rattle.steps.specs.declared.decision.Decision.the-variants.{DropRandom, Dro
 use Rattle.engine.specs.Changes.{overflowedOf, reboundOf}
 use Rattle.engine.specs.Decide.{decideUncheckedOf}
 use Rattle.engine.specs.declared.engine.ArrivalEngine.{ArrivalEngine}
-use Rattle.held.specs.Copies.{Copy, copy, least, without}
+use Rattle.held.specs.Copies.{Copy, copy, without, Leaving, noCopy, oneCopy, leaving}
 use Rattle.machine.specs.Machine.{Machine, machine, inRange}
 use Rattle.machine.specs.Calls.{Call, arrive, release, rebind, teardown, report, Answer, decided, released, noneDue, rebound, toreDown, reported, refused}
 
@@ -31,9 +31,9 @@ stepTo a m = record { answer = a; then = m }
 
 -- the number of the first test that fails, or else the step
 unfoldable pub unless : Machine → Bool → Bool → Step → Step
-unless m instant length s =
+unless m instant short s =
     cond (not instant) (stepTo (refused refusedInstant) m)
-    (cond (not length) (stepTo (refused refusedLength) m)
+    (cond (not short) (stepTo (refused refusedLength) m)
     (cond (not (inRange (m .engine) (m .accounts) (m .torn) (m .nextSeq))) (stepTo (refused refusedCounter) m)
     s))
 
@@ -111,16 +111,14 @@ arriveStep m now bytes route =
 abbrev pub leave : Machine → Float → Copy → Machine
 leave m now c = machine (m .engine) (m .cap) (without (c .seq) (m .held)) (m .nextSeq) (sentOf (m .accounts) (c .length) (sub binary64 now (c .arrival))) (m .torn)
 
-unfoldable pub leaveIfDue : Machine → Float → Copy → Step
-leaveIfDue m now c = cond (le (c .due) now) (stepTo (released c) (leave m now c)) (stepTo noneDue m)
+-- the copy that leaves is handed out
+unfoldable pub handOut : Machine → Float → Leaving → Step
+handOut m now noCopy = stepTo noneDue m
+handOut m now (oneCopy c) = stepTo (released c) (leave m now c)
 
--- "the least (due, seq)" of the held list
-unfoldable pub releaseLeast : Machine → Float → List Copy → Step
-releaseLeast m now [] = stepTo noneDue m
-releaseLeast m now (c ∷ l) = leaveIfDue m now (least c l)
-
+-- the least of the held copies that are due
 unfoldable pub releaseStep : Machine → Float → Step
-releaseStep m now = unless m (isInstantOf now) true (releaseLeast m now (m .held))
+releaseStep m now = unless m (isInstantOf now) true (handOut m now (leaving now (m .held)))
 
 -- ---- rebind(now): "as `should_rebind_now`"
 

@@ -22,36 +22,43 @@ pub record Tally : Type 0 where
   pub released : ℕ
   pub torn : ℕ
 
-abbrev pub tally : ℕ → ℕ → ℕ → ℕ → ℕ → ℕ → ℕ → ℕ → ℕ → ℕ → Tally
-tally i r g m b k d o s t = record { received = i; random = r; ge = g; mtu = m; blackout = b; reset = k; duplicates = d; overflow = o; released = s; torn = t }
-
 abbrev pub nothing : Tally
-nothing = tally 0 0 0 0 0 0 0 0 0 0
+nothing = record { received = 0; random = 0; ge = 0; mtu = 0; blackout = 0; reset = 0; duplicates = 0; overflow = 0; released = 0; torn = 0 }
 
 -- an arrival that was decided so, with so many copies overflowed and torn
 abbrev pub arrival : Decision → ℕ → ℕ → Tally
-arrival DropRandom o t = tally 1 1 0 0 0 0 0 o 0 t
-arrival DropGe o t = tally 1 0 1 0 0 0 0 o 0 t
-arrival DropMtu o t = tally 1 0 0 1 0 0 0 o 0 t
-arrival DropBlackout o t = tally 1 0 0 0 1 0 0 o 0 t
-arrival DropKillHold o t = tally 1 0 0 0 1 0 0 o 0 t
-arrival (Enqueue due duplicated) o t = tally 1 0 0 0 0 0 (oneIf duplicated) o 0 t
-arrival KillRst o t = tally 1 0 0 0 0 1 0 o 0 t
+arrival DropRandom o t = record { received = 1; random = 1; ge = 0; mtu = 0; blackout = 0; reset = 0; duplicates = 0; overflow = o; released = 0; torn = t }
+arrival DropGe o t = record { received = 1; random = 0; ge = 1; mtu = 0; blackout = 0; reset = 0; duplicates = 0; overflow = o; released = 0; torn = t }
+arrival DropMtu o t = record { received = 1; random = 0; ge = 0; mtu = 1; blackout = 0; reset = 0; duplicates = 0; overflow = o; released = 0; torn = t }
+arrival DropBlackout o t = record { received = 1; random = 0; ge = 0; mtu = 0; blackout = 1; reset = 0; duplicates = 0; overflow = o; released = 0; torn = t }
+arrival DropKillHold o t = record { received = 1; random = 0; ge = 0; mtu = 0; blackout = 1; reset = 0; duplicates = 0; overflow = o; released = 0; torn = t }
+arrival (Enqueue due duplicated) o t = record { received = 1; random = 0; ge = 0; mtu = 0; blackout = 0; reset = 0; duplicates = oneIf duplicated; overflow = o; released = 0; torn = t }
+arrival KillRst o t = record { received = 1; random = 0; ge = 0; mtu = 0; blackout = 0; reset = 1; duplicates = 0; overflow = o; released = 0; torn = t }
 
 -- what one answer adds
 abbrev pub tallyOf : Answer → Tally
 tallyOf (decided d entered overflowed torn) = arrival d overflowed torn
-tallyOf (released c) = tally 0 0 0 0 0 0 0 0 1 0
+tallyOf (released c) = record { received = 0; random = 0; ge = 0; mtu = 0; blackout = 0; reset = 0; duplicates = 0; overflow = 0; released = 1; torn = 0 }
 tallyOf noneDue = nothing
 tallyOf (rebound b) = nothing
-tallyOf (toreDown n) = tally 0 0 0 0 0 0 0 0 0 n
+tallyOf (toreDown n) = record { received = 0; random = 0; ge = 0; mtu = 0; blackout = 0; reset = 0; duplicates = 0; overflow = 0; released = 0; torn = n }
 tallyOf (reported s held torn) = nothing
 tallyOf (refused k) = nothing
 
 abbrev pub plus : Tally → Tally → Tally
 plus x y =
-    tally (x .received + y .received) (x .random + y .random) (x .ge + y .ge) (x .mtu + y .mtu) (x .blackout + y .blackout) (x .reset + y .reset)
-    (x .duplicates + y .duplicates) (x .overflow + y .overflow) (x .released + y .released) (x .torn + y .torn)
+    record {
+      received = x .received + y .received;
+      random = x .random + y .random;
+      ge = x .ge + y .ge;
+      mtu = x .mtu + y .mtu;
+      blackout = x .blackout + y .blackout;
+      reset = x .reset + y .reset;
+      duplicates = x .duplicates + y .duplicates;
+      overflow = x .overflow + y .overflow;
+      released = x .released + y .released;
+      torn = x .torn + y .torn;
+    }
 
 -- what a list of answers adds up to
 unfoldable pub total : List Answer → Tally

@@ -1,15 +1,19 @@
--- What holds of every list of calls on a fresh machine, whatever it is made of, and of every refused call, report and release.
+-- What holds of every list of calls on a fresh machine, whatever it is made of, of every refused call and report, and of the dues that are held.
 use mathlib.Core.Path.{_≡_, sym, ap, _∙_}
 use mathlib.Core.Logic.{_⊎_, ⊎-elim}
+use mathlib.Core.Bool.{true}
 use mathlib.Core.List.{List, [], _∷_}
 use Prim.Native.Nat.{ℕ}
 use native.Mathlib.Omega.{arith}
-use lib.Ieee.{Float}
+use lib.Ieee.{le}
+use lib.Ieee.Bits.{is-true}
 use lib.ListN.{length}
+use Rattle.numbers.specs.Laws.Kinds.{number-is, plus-number}
+use Rattle.options.specs.Judgement.{isSettingsOf}
+use Rattle.held.specs.Copies.{Copy, Mem, NumberDues}
 use Rattle.machine.specs.Machine.{Machine, Creation, freshMachine}
-use Rattle.machine.specs.Calls.{Call, report, Refusal, In, refused}
-use Rattle.machine.specs.Steps.{releaseLeast, step, answers, afterAll}
-use Rattle.machine.specs.Due.{dueBy, releaseDue, AllNumbers}
+use Rattle.machine.specs.Calls.{Call, report, Binary64, Refusal, In, refused}
+use Rattle.machine.specs.Steps.{step, answers, afterAll}
 use Rattle.machine.specs.Tally.{nothing, total, cameIn, accountedFor, EachTells}
 use Rattle.machine.specs.Arrivals.{EachOwn}
 use Rattle.machine.specs.Bare.{bareCalls, bareAnswers}
@@ -19,7 +23,7 @@ use Rattle.machine.specs.Laws.Own.{fresh-known, all-own}
 use Rattle.machine.specs.Laws.Bare.{bare-answers, fresh-bare}
 use Rattle.machine.specs.Laws.Refused.{step-refuses, report-changes-nothing}
 use Rattle.machine.specs.Laws.Reports.{fresh-counted, all-tell}
-use Rattle.machine.specs.Laws.Due.{least-of-due}
+use Rattle.machine.specs.Laws.Numbers.{all-sound, fresh-machine-sound}
 
 -- what came in, received and duplicates, is random, GE, MTU, blackout, reset, overflow, released, torn and held
 pub count : (made : Creation) (cs : List Call)
@@ -64,6 +68,11 @@ refused-stays m c k e = step-refuses m c k e .stays
 pub report-stays : (m : Machine) → step m report .then ≡ m
 report-stays m = report-changes-nothing m
 
--- "the least (due, seq) with due ≤ now leaves": wherever no held due is a NaN, to take the least of all and ask whether it is due is to take the least that is due
-pub least-due : (m : Machine) (now : Float) → AllNumbers (m .held) → releaseLeast m now (m .held) ≡ releaseDue m now (dueBy now (m .held))
-least-due m now h = least-of-due m now (m .held) h
+-- with settings that 29 lets through no held copy has a due that is a NaN
+pub held-numbers : (made : Creation) → isSettingsOf (made .settings) ≡ true → (cs : List Call) → Binary64 cs → NumberDues (afterAll (freshMachine made) cs .held)
+held-numbers made settings cs fit c k = number-is (plus-number (all-sound (freshMachine made) (fresh-machine-sound made settings) cs fit .dues c k .clear))
+
+-- or one before its arrival
+pub held-later : (made : Creation) → isSettingsOf (made .settings) ≡ true → (cs : List Call) → Binary64 cs
+    → (c : Copy) → Mem c (afterAll (freshMachine made) cs .held) → le (c .arrival) (c .due) ≡ true
+held-later made settings cs fit c k = is-true _ (all-sound (freshMachine made) (fresh-machine-sound made settings) cs fit .dues c k .later)

@@ -4,12 +4,12 @@ use mathlib.Core.Bool.{Bool, cond, not, _&&_}
 use mathlib.Core.List.{List, [], _∷_, _++_}
 use Prim.Native.Nat.{ℕ, _+_}
 use lib.Dec.{leb, eqb}
-use lib.Ieee.{Float, le, isNan}
+use lib.Ieee.{Float, isNan}
 use lib.ListN.{length}
 use Rattle.numbers.specs.Instant.{isInstantOf}
 use Rattle.numbers.specs.Limits.{isCounterOf}
 use Rattle.numbers.specs.Refusals.{refusedInstant, refusedLength, refusedCounter, refusedDue, refusedFull}
-use Rattle.held.specs.Copies.{Copy, copy, least, without}
+use Rattle.held.specs.Copies.{Copy, copy, least, without, Leaving, noCopy, oneCopy, leaving}
 use Rattle.queue.specs.declared.answers.DueAnswer.{DueAnswer}
 use Rattle.queue.specs.declared.answers.DueAnswer.the-variants as due
 
@@ -64,22 +64,17 @@ pushPlain width p due arrival route id duplicated bytes =
     (cond (isFull p) (stepTo (refused refusedFull) p)
     (secondPlain (p .nextSeq) (withCopy p due arrival route id bytes) due arrival route duplicated bytes)))))
 
--- the copy leaves if its due has come
-unfoldable pub leaveIfDue : Plain → Float → Copy → Step
-leaveIfDue p now c =
-    cond (le (c .due) now) (stepTo (released c) (plain (p .cap) (without (c .seq) (p .held)) (p .nextSeq)))
-    (stepTo noneDue p)
+-- the copy that leaves is handed out, and all but it are left
+unfoldable pub handOut : Plain → Leaving → Step
+handOut p noCopy = stepTo noneDue p
+handOut p (oneCopy c) = stepTo (released c) (plain (p .cap) (without (c .seq) (p .held)) (p .nextSeq))
 
-unfoldable pub releaseLeast : Plain → Float → List Copy → Step
-releaseLeast p now [] = stepTo noneDue p
-releaseLeast p now (c ∷ l) = leaveIfDue p now (least c l)
-
--- 21, 25; else "the least (due, seq) with due ≤ now leaves"
+-- 21, 25; else the least copy that is due leaves
 unfoldable pub releasePlain : Plain → Float → Step
 releasePlain p now =
     cond (not (isInstantOf now)) (stepTo (refused refusedInstant) p)
     (cond (not (isCounterOf (p .nextSeq))) (stepTo (refused refusedCounter) p)
-    (releaseLeast p now (p .held)))
+    (handOut p (leaving now (p .held))))
 
 -- 25; else all leave, and their number is told
 unfoldable pub drainPlain : Plain → Step

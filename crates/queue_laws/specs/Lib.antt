@@ -5,4 +5,5 @@ pub mod Held
 pub mod Replies
 pub mod Lines
 pub mod Laws
+pub mod Lent
 pub mod Theorem

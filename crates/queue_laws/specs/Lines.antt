@@ -9,8 +9,8 @@ use Rattle.numbers.specs.Instant.{isInstantOf}
 use Rattle.numbers.specs.Limits.{isCounterOf}
 use Rattle.numbers.specs.Whole.{whole}
 use Rattle.held.specs.Order.{beforeOf}
-use Rattle.held.specs.Copies.{copy, least, without}
-use Rattle.queue_laws.specs.Held.{Call, push, release, drain, Reply, entered, released, noneDue, drained, refused, plain, secondPlain, pushPlain, leaveIfDue, releaseLeast, releasePlain, drainPlain, step, run}
+use Rattle.held.specs.Copies.{copy, least, without, dueBy, leastIn, leaving}
+use Rattle.queue_laws.specs.Held.{Call, push, release, drain, Reply, entered, released, noneDue, drained, refused, plain, secondPlain, pushPlain, handOut, releasePlain, drainPlain, step, run}
 
 -- a copy without bytes, due at that instant, which came at 0
 abbrev at : Float → Call
@@ -39,5 +39,5 @@ pub record QueueLines : Type 0 where
   pub infinite : replies 2 (at (inf false) ∷ at (whole 1) ∷ release (whole 9007199254740992) ∷ release (whole 9007199254740992) ∷ drain ∷ []) ≡ (entered 0 1 ∷ entered 1 1 ∷ out (whole 1) 1 ∷ noneDue ∷ drained 1 ∷ [])
 
 pub queue-lines : QueueLines
-unfolding run step pushPlain secondPlain releasePlain releaseLeast leaveIfDue drainPlain least without beforeOf isInstantOf isCounterOf lt le isNan ofInt
+unfolding run step pushPlain secondPlain releasePlain handOut drainPlain leaving leastIn dueBy least without beforeOf isInstantOf isCounterOf lt le isNan ofInt
 queue-lines = record { full = refl; both = refl; tie = refl; due = refl; infinite = refl }

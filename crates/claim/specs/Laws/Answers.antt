@@ -1,7 +1,5 @@
 -- What each call of crates/device says and leaves, by the definitions, and a list of calls.
 use mathlib.Core.List.{List, [], _∷_}
-use lib.Dec.{T}
-use lib.Ieee.{binary64, fits}
 use Rattle.queue.specs.Refusals.{slotWidth}
 use Rattle.queue.specs.Tables.{Tables, After}
 use Rattle.machine.specs.Calls as call
@@ -50,15 +48,3 @@ answerTo v t call.report = said (saidOfReport (reportOf v)) v t
 unfoldable pub answersTo : Device → Tables → List Call → List Answer
 answersTo v t [] = []
 answersTo v t (c ∷ cs) = answerTo v t c .reply ∷ answersTo (answerTo v t c .device) (answerTo v t c .tables) cs
-
--- the instant of an arrival is a binary64 number, as every f64 is
-abbrev pub Binary64Call : Call → Type 0
-Binary64Call (call.arrive now bytes route) = T (fits binary64 now)
-Binary64Call (call.release now) = Unit {0}
-Binary64Call (call.rebind now) = Unit {0}
-Binary64Call call.teardown = Unit {0}
-Binary64Call call.report = Unit {0}
-
-abbrev pub Binary64 : List Call → Type 0
-Binary64 [] = Unit {0}
-Binary64 (c ∷ cs) = Binary64Call c × Binary64 cs

@@ -13,7 +13,7 @@ use Rattle.numbers.specs.Laws.NotNan.{cond-has}
 use Rattle.numbers.specs.Limits.{maxLength, isCounterOf}
 use Rattle.numbers.specs.Refusals.{refusedFull}
 use Rattle.engine.specs.Changes.{overflowedOf}
-use Rattle.engine.specs.Laws.Sound.{SoundEngine}
+use Rattle.engine.specs.Laws.Sound.{SoundEngine, overflowed-sound}
 use Rattle.held.specs.Copies.{copy}
 use Rattle.queue.specs.Calls.{pushOf}
 use Rattle.queue.specs.Refusals.{slotWidth}
@@ -34,7 +34,7 @@ use Rattle.admission.specs.declared.admitted.Admitted.{Admitted}
 use Rattle.device.specs.Arrive.{overflowsOf}
 use Rattle.claim.specs.Laws.Kept.{AllShort}
 use Rattle.claim.specs.Laws.Agree.{queueOf}
-use Rattle.claim.specs.Laws.Counts.{overflows-none, overflows-more, overflowed-sound}
+use Rattle.claim.specs.Laws.Counts.{overflows-none, overflows-more}
 use Rattle.claim.specs.Laws.Short.{short-last}
 
 -- what was admitted, and the machine m with the copies that entered

@@ -5,8 +5,6 @@ use native.Mathlib.Nat.{add-zero}
 use native.Mathlib.Omega.{arith}
 use Rattle.accounts.specs.declared.accountant.SendAccountant.{SendAccountant}
 use Rattle.engine.specs.Changes.{withOthers, overflowedOf}
-use Rattle.engine.specs.Engine.{stateOf}
-use Rattle.engine.specs.Laws.Sound.{SoundEngine}
 use Rattle.engine.specs.declared.engine.ArrivalEngine.{ArrivalEngine}
 use Rattle.machine.specs.Steps.{resetOf}
 use Rattle.device.specs.Arrive.{overflowsOf, resetsOf}
@@ -34,11 +32,6 @@ unfolding overflowsOf overflowedOf withOthers
 overflows-more e n i =
     let regroup : e .stats .«dropped_overflow» + (n + 1) ≡ e .stats .«dropped_overflow» + n + 1 = omega arith in
     withOverflow e (regroup i)
-
--- the counter of overflow is no part of what keeps an engine sound
-pub overflowed-sound : (e : ArrivalEngine) → SoundEngine e → SoundEngine (overflowedOf e)
-unfolding overflowedOf stateOf
-overflowed-sound e s = record { settings = s .settings; state = s .state }
 
 pub resets-none : (a : SendAccountant) → resetsOf a 0 ≡ a
 unfolding resetsOf

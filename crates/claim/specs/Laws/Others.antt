@@ -16,8 +16,7 @@ use Rattle.accounts.specs.declared.answers.Outcome.the-variants as outcome
 use Rattle.options.specs.Judgement.{isSettingsOf}
 use Rattle.engine.specs.Calls.{shouldRebindNowOf}
 use Rattle.engine.specs.Changes.{reboundOf}
-use Rattle.engine.specs.Engine.{stateOf}
-use Rattle.engine.specs.Laws.Sound.{SoundEngine}
+use Rattle.engine.specs.Laws.Sound.{SoundEngine, rebound-sound}
 use Rattle.engine.specs.Refusals.{refusalOf, judgedOf, countersPass}
 use Rattle.engine.specs.declared.answers.BoolAnswer.the-variants as said
 use Rattle.engine.specs.declared.answers.Rebound.{Rebound as EngineRebound}
@@ -60,10 +59,6 @@ rebinds : (e : ArrivalEngine) (now : Float) → judgedOf e (isInstantOf now) tru
 unfolding shouldRebindNowOf
 rebinds e now h = rw h
 
-sound-rebound : (e : ArrivalEngine) → SoundEngine e → SoundEngine (reboundOf e)
-unfolding reboundOf stateOf
-sound-rebound e s = record { settings = s .settings; state = s .state }
-
 -- ---- teardown and report
 
 abbrev pub TeardownAgrees : Tables → TornDown → Step → Type 0
@@ -79,7 +74,7 @@ module _ (m : Machine) (q : ImpairQueue) (t : Tables) (keeps : Keeps slotWidth t
       → RebindAgrees t (reboundBy (byTime (m .engine) b .answer) (deviceOf (withEngine m (byTime (m .engine) b .engine)) q))
       (cond b (stepTo (rebound true) (withEngine m (reboundOf (m .engine)))) (stepTo (rebound false) m))
   unfolding reboundBy
-  by-time true = record { says = refl; keeps = kept-parts (withEngine m (reboundOf (m .engine))) q t keeps (sound-rebound (m .engine) sound) short }
+  by-time true = record { says = refl; keeps = kept-parts (withEngine m (reboundOf (m .engine))) q t keeps (rebound-sound (m .engine) sound) short }
   by-time false = record { says = refl; keeps = kept }
 
   rebind-parts : (now : Float) → RebindAgrees t (rebindOf (deviceOf m q) now) (step m (rebind now))

@@ -12,7 +12,7 @@ use Rattle.queue.specs.Tables.{Tables, After, after}
 use Rattle.queue.specs.Refusals.{slotWidth}
 use Rattle.queue.specs.Calls.{payloadOf}
 use Rattle.queue.specs.declared.answers.ReleaseAnswer.{ReleaseAnswer}
-use Rattle.machine.specs.Calls.{Call, Answer, released}
+use Rattle.machine.specs.Calls.{Call, Answer, released, Binary64Call, Binary64}
 use Rattle.device.specs.Creation.{createOf}
 use Rattle.device.specs.Arrive.{arriveOf}
 use Rattle.device.specs.Release.{releaseOf}
@@ -24,9 +24,9 @@ use Rattle.device.specs.declared.answers.Released.{Released}
 use Rattle.device.specs.declared.answers.Reported.{Reported}
 use Rattle.device.specs.declared.answers.TornDown.{TornDown}
 use Rattle.device.specs.declared.device.Device.{Device}
-use Rattle.claim.specs.Replies.{saidOfArrive, saidOfRelease, saidOfRebind, saidOfTeardown, saidOfReport}
-use Rattle.claim.specs.Runs.{Parses, Creates, Arrives, Releases, Rebinds, TearsDown, Reports, Reads, Says, hands-out, none, refuses, Ran, done, arrives, releases, rebinds, tearsDown, reports}
-use Rattle.claim.specs.Laws.Answers.{saidByArrive, saidByRelease, saidByRebind, saidByTeardown, answerTo, answersTo, Binary64}
+use Rattle.claim.specs.Replies.{saidOfRelease, saidOfReport}
+use Rattle.claim.specs.Runs.{Parses, Creates, Arrives, Releases, Rebinds, TearsDown, Reports, Reads, Says, hands-out, none, refuses, Answered, arrives, releases, rebinds, tearsDown, reports, Ran, done, next}
+use Rattle.claim.specs.Laws.Answers.{Said, said, saidByArrive, saidByRelease, saidByRebind, saidByTeardown, answerTo, answersTo}
 
 pub parses-is : {text : List ℕ} {r : Parsed} → Parses text r → r ≡ parseOf text
 parses-is (Parses.called κs a r s et h) = h ∙ ap parseOf et
@@ -60,27 +60,28 @@ says-is (hands-out {c} h) = ap (λ (b : List ℕ). released (copy (c .«due_ms»
 says-is none = refl
 says-is refuses = refl
 
+pub answered-is : {v v′ : Device} {t t′ : Tables} {c : Call} {a : Answer} → Answered v t c a v′ t′ → said a v′ t′ ≡ answerTo v t c
+unfolding answerTo
+answered-is (arrives x) = ap saidByArrive (arrives-is x)
+answered-is (releases {t′ = t′} {r = r} x a) = (λ i. said (says-is a i) (r .device) t′) ∙ ap saidByRelease (releases-is x)
+answered-is {t = t} (rebinds x) = ap (saidByRebind t) (rebinds-is x)
+answered-is {t = t} (tearsDown x) = ap (saidByTeardown t) (tears-is x)
+answered-is {v = v} {t = t} (reports x) = ap (λ (o : Reported). said (saidOfReport o) v t) (reports-is x)
+
 pub ran-is : {v : Device} {t : Tables} {cs : List Call} {rs : List Answer} → Ran v t cs rs → rs ≡ answersTo v t cs
-unfolding answersTo answerTo
+unfolding answersTo
 ran-is done = refl
-ran-is (arrives {r = r} {cs = cs} c k) =
-    ap (λ (l : List Answer). saidOfArrive (r .answer) ∷ l) (ran-is k)
-    ∙ ap (λ (o : After Arrived). saidByArrive o .reply ∷ answersTo (saidByArrive o .device) (saidByArrive o .tables) cs) (arrives-is c)
-ran-is (releases {r = r} {cs = cs} c a k) =
-    (λ i. says-is a i ∷ ran-is k i)
-    ∙ ap (λ (o : After Released). saidByRelease o .reply ∷ answersTo (saidByRelease o .device) (saidByRelease o .tables) cs) (releases-is c)
-ran-is (rebinds {t = t} {r = r} {cs = cs} c k) =
-    ap (λ (l : List Answer). saidOfRebind (r .answer) ∷ l) (ran-is k)
-    ∙ ap (λ (o : Rebound). saidByRebind t o .reply ∷ answersTo (saidByRebind t o .device) (saidByRebind t o .tables) cs) (rebinds-is c)
-ran-is (tearsDown {t = t} {r = r} {cs = cs} c k) =
-    ap (λ (l : List Answer). saidOfTeardown (r .answer) ∷ l) (ran-is k)
-    ∙ ap (λ (o : TornDown). saidByTeardown t o .reply ∷ answersTo (saidByTeardown t o .device) (saidByTeardown t o .tables) cs) (tears-is c)
-ran-is (reports {v = v} {t = t} {r = r} {cs = cs} c k) = (λ i. saidOfReport (reports-is c i) ∷ ran-is k i)
+ran-is (next {a = a} {cs = cs} x ran) =
+    ap (λ (l : List Answer). a ∷ l) (ran-is ran)
+    ∙ ap (λ (o : Said). o .reply ∷ answersTo (o .device) (o .tables) cs) (answered-is x)
+
+answered-binary64 : {v v′ : Device} {t t′ : Tables} {c : Call} {a : Answer} → Answered v t c a v′ t′ → Binary64Call c
+answered-binary64 (arrives x) = arrives-fit x
+answered-binary64 (releases x a) = tt
+answered-binary64 (rebinds x) = tt
+answered-binary64 (tearsDown x) = tt
+answered-binary64 (reports x) = tt
 
 pub ran-binary64 : {v : Device} {t : Tables} {cs : List Call} {rs : List Answer} → Ran v t cs rs → Binary64 cs
 ran-binary64 done = tt
-ran-binary64 (arrives c k) = (arrives-fit c, ran-binary64 k)
-ran-binary64 (releases c a k) = (tt, ran-binary64 k)
-ran-binary64 (rebinds c k) = (tt, ran-binary64 k)
-ran-binary64 (tearsDown c k) = (tt, ran-binary64 k)
-ran-binary64 (reports c k) = (tt, ran-binary64 k)
+ran-binary64 (next x ran) = (answered-binary64 x, ran-binary64 ran)

@@ -1,10 +1,9 @@
 -- A release answers as the machine's does: where a copy leaves, it is accounted, since its length is at most 2,048 and 25 let the counters through.
 use mathlib.Core.Path.{_≡_, refl, sym, ap, subst}
-use mathlib.Core.Bool.{Bool, true, false}
-use mathlib.Core.List.{List, [], _∷_}
+use mathlib.Core.Bool.{true}
 use Prim.Native.Nat.{ℕ, _≤_}
 use native.Mathlib.Omega.{arith}
-use lib.Ieee.{Float, binary64, sub, le}
+use lib.Ieee.{Float, binary64, sub}
 use borrow.Author.Tests.{le-leb}
 use Rattle.numbers.specs.Instant.{isInstantOf}
 use Rattle.numbers.specs.Limits.{maxLength, isLengthOf, isCounterOf}
@@ -15,8 +14,8 @@ use Rattle.accounts.specs.Laws.Calls.{send-done}
 use Rattle.accounts.specs.declared.accountant.SendAccountant.{SendAccountant}
 use Rattle.accounts.specs.declared.accountant.Sent.{Sent}
 use Rattle.accounts.specs.declared.answers.Outcome.the-variants as outcome
-use Rattle.held.specs.Copies.{Copy, least, without}
-use Rattle.held.specs.Laws.Least.{least-mem}
+use Rattle.held.specs.Copies.{Copy, without, Leaving, noCopy, oneCopy, leaving}
+use Rattle.held.specs.Laws.Due.{leaving-mem}
 use Rattle.queue.specs.Calls.{releaseOf as queueReleaseOf}
 use Rattle.queue.specs.Refusals.{slotWidth, memoryOf}
 use Rattle.queue.specs.Tables.{Tables, After, after}
@@ -24,7 +23,7 @@ use Rattle.queue.specs.declared.answers.Queued.{Queued}
 use Rattle.queue.specs.declared.answers.ReleaseAnswer.{ReleaseAnswer}
 use Rattle.queue.specs.declared.answers.ReleaseAnswer.the-variants as answer
 use Rattle.queue.specs.declared.queue.ImpairQueue.{ImpairQueue}
-use Rattle.queue_laws.specs.Held.{Plain, plain, Step as QueueStep, released as queueReleased, noneDue as queueNoneDue, releasePlain, releaseLeast as queueReleaseLeast, leaveIfDue as queueLeaveIfDue}
+use Rattle.queue_laws.specs.Held.{Plain, plain, Step as QueueStep, released as queueReleased, noneDue as queueNoneDue, handOut as queueHandOut, releasePlain}
 use Rattle.queue_laws.specs.Laws.Agree.{Agree, release-agrees}
 use Rattle.queue_laws.specs.Laws.Creation.{long-memory}
 use Rattle.queue_laws.specs.Laws.Keeps.{Keeps}
@@ -32,7 +31,7 @@ use Rattle.queue_laws.specs.Replies.{copyOf, saidOfRelease as queueSays, saidBy
 use Rattle.engine.specs.Laws.Sound.{SoundEngine}
 use Rattle.machine.specs.Calls.{release, released, noneDue}
 use Rattle.machine.specs.Machine.{Machine}
-use Rattle.machine.specs.Steps.{Step, stepTo, leave, leaveIfDue, releaseLeast, releaseStep, step}
+use Rattle.machine.specs.Steps.{Step, stepTo, leave, handOut, releaseStep, step}
 use Rattle.device.specs.Release.{notReleased, accountedBy, accountedOf, sentBy, sentIn, releaseOf}
 use Rattle.device.specs.declared.answers.Released.{Released}
 use Rattle.device.specs.declared.device.Device.{Device}
@@ -92,35 +91,27 @@ module _ (m : Machine) (sound : SoundEngine (m .engine)) (short : AllShort (m .h
       abbrev Said : QueueStep → Type 0
       Said s = (queueSays slotWidth (t .store) a ≡ s .reply) × Keeps slotWidth t q (s .then)
 
-      left-if-due : (c : Copy) → c .length ≤ maxLength → Said (queueLeaveIfDue (queueOf m) now c) → ReleaseAgrees (after (sentBy a (deviceOf m q) now) t) (leaveIfDue m now c)
-      unfolding queueLeaveIfDue leaveIfDue
-      left-if-due c within = go (le (c .due) now) refl
-        where
-          go : (b : Bool) → le (c .due) now ≡ b → Said (queueLeaveIfDue (queueOf m) now c) → ReleaseAgrees (after (sentBy a (deviceOf m q) now) t) (leaveIfDue m now c)
-          go true e h = let k = rw e at h in rw e (one-left c within a q t (k .0) (k .1))
-          go false e h = let k = rw e at h in rw e (none-left a q t (k .0) (k .1))
-
-      least-left : (l : List Copy) → AllShort l → Said (queueReleaseLeast (queueOf m) now l) → ReleaseAgrees (after (sentBy a (deviceOf m q) now) t) (releaseLeast m now l)
-      unfolding queueReleaseLeast releaseLeast
-      least-left [] all h = none-left a q t (h .0) (h .1)
-      least-left (c ∷ l) all h = left-if-due (least c l) (short-mem (least c l) (c ∷ l) (least-mem c l) all) h
+      both-hand-out : (x : Leaving) → leaving now (m .held) ≡ x → Said (queueHandOut (queueOf m) x) → ReleaseAgrees (after (sentBy a (deviceOf m q) now) t) (handOut m now x)
+      unfolding queueHandOut handOut
+      both-hand-out noCopy e h = none-left a q t (h .0) (h .1)
+      both-hand-out (oneCopy c) e h = one-left c (short-mem c (m .held) (leaving-mem now (m .held) c e) short) a q t (h .0) (h .1)
 
 -- the queue's release, where it is not refused
-release-least : (p : Plain) (now : Float) → isInstantOf now ≡ true → isCounterOf (p .nextSeq) ≡ true → releasePlain p now ≡ queueReleaseLeast p now (p .held)
+release-passed : (p : Plain) (now : Float) → isInstantOf now ≡ true → isCounterOf (p .nextSeq) ≡ true → releasePlain p now ≡ queueHandOut p (leaving now (p .held))
 unfolding releasePlain
-release-least p now instant next = rw (instant, next)
+release-passed p now instant next = rw (instant, next)
 
 module _ (m : Machine) (q : ImpairQueue) (t : Tables) (now : Float) (keeps : Keeps slotWidth t q (queueOf m)) (sound : SoundEngine (m .engine)) (short : AllShort (m .held)) where
-  left : Passed m (isInstantOf now) true → ReleaseAgrees (sentIn (deviceOf m q) (queueReleaseOf slotWidth q t now) now) (releaseLeast m now (m .held))
+  left : Passed m (isInstantOf now) true → ReleaseAgrees (sentIn (deviceOf m q) (queueReleaseOf slotWidth q t now) now) (handOut m now (leaving now (m .held)))
   left p =
       let o = queueReleaseOf slotWidth q t now in
-      let a = subst (Agree slotWidth (saidByRelease slotWidth o)) (release-least (queueOf m) now (p .instant-passes) (p .next)) (release-agrees slotWidth t q (queueOf m) keeps now) in
-      least-left m sound short now (p .accounts) (o .gives .answer) (o .gives .queue) (o .memory) (m .held) short (a .says, a .keeps)
+      let a = subst (Agree slotWidth (saidByRelease slotWidth o)) (release-passed (queueOf m) now (p .instant-passes) (p .next)) (release-agrees slotWidth t q (queueOf m) keeps now) in
+      both-hand-out m sound short now (p .accounts) (o .gives .answer) (o .gives .queue) (o .memory) (leaving now (m .held)) refl (a .says, a .keeps)
 
   from-parts : ReleaseAgrees (releaseOf slotWidth (deviceOf m q) t now) (step m (release now))
   unfolding releaseOf step releaseStep
   from-parts =
-      by-refusal ReleaseAgrees m (sentIn (deviceOf m q) (queueReleaseOf slotWidth q t now) now) (λ (n : ℕ). after (notReleased (deviceOf m q) (answer.Refused n)) t) (releaseLeast m now (m .held))
+      by-refusal ReleaseAgrees m (sentIn (deviceOf m q) (queueReleaseOf slotWidth q t now) now) (λ (n : ℕ). after (notReleased (deviceOf m q) (answer.Refused n)) t) (handOut m now (leaving now (m .held)))
       (λ (n : ℕ). record { says = refl; keeps = kept-parts m q t keeps sound short })
       q (keeps .same-next) (memoryOf slotWidth (q .cap) t) (isInstantOf now) true (long-memory slotWidth (q .cap) t (keeps .long)) left
 

@@ -1,20 +1,14 @@
--- For every list of calls on a device that was created, each answer is the plain machine's.
+-- For every list of calls on a device that keeps a machine, each answer is the machine's.
 use mathlib.Core.Path.{_≡_, refl, ap, _∙_}
 use mathlib.Core.List.{List, [], _∷_}
-use Prim.Native.Nat.{ℕ}
-use Rattle.options.specs.declared.config.DirectionConfig.{DirectionConfig}
-use Rattle.queue.specs.Refusals.{slotWidth}
 use Rattle.queue.specs.Tables.{Tables}
-use Rattle.machine.specs.Calls.{Call, arrive, release, rebind, teardown, report, Answer}
-use Rattle.machine.specs.Machine.{Machine, hostCreation, freshMachine}
+use Rattle.machine.specs.Calls.{Call, arrive, release, rebind, teardown, report, Answer, Binary64Call, Binary64}
+use Rattle.machine.specs.Machine.{Machine}
 use Rattle.machine.specs.Steps.{step, answers}
-use Rattle.device.specs.Creation.{createOf}
-use Rattle.device.specs.declared.answers.CreateAnswer.the-variants as create
 use Rattle.device.specs.declared.device.Device.{Device}
-use Rattle.claim.specs.Laws.Answers.{answerTo, answersTo, Binary64Call, Binary64}
+use Rattle.claim.specs.Laws.Answers.{answerTo, answersTo}
 use Rattle.claim.specs.Laws.Kept.{Kept}
 use Rattle.claim.specs.Laws.Agree.{Agrees}
-use Rattle.claim.specs.Laws.Creation.{create-kept}
 use Rattle.claim.specs.Laws.Arrive.{arrive-kept}
 use Rattle.claim.specs.Laws.Release.{release-kept}
 use Rattle.claim.specs.Laws.Others.{rebind-kept, teardown-kept, report-kept}
@@ -34,8 +28,3 @@ calls-agree (c ∷ cs) fit v t m k =
     let a = call-agrees v t m k c (fit .0) in
     ap (λ (r : Answer). r ∷ answersTo (answerTo v t c .device) (answerTo v t c .tables) cs) (a .says)
     ∙ ap (λ (l : List Answer). step m c .answer ∷ l) (calls-agree cs (fit .1) _ _ _ (a .keeps))
-
--- from creation on, whatever stood in the lent memory
-pub created-agrees : (cfg : DirectionConfig) (seed salt cap : ℕ) (t : Tables) → createOf slotWidth cfg seed salt cap t .answer ≡ create.Created
-    → (cs : List Call) → Binary64 cs → answersTo (createOf slotWidth cfg seed salt cap t .device) t cs ≡ answers (freshMachine (hostCreation cfg seed salt cap)) cs
-created-agrees cfg seed salt cap t made cs fit = calls-agree cs fit (createOf slotWidth cfg seed salt cap t .device) t (freshMachine (hostCreation cfg seed salt cap)) (create-kept cfg seed salt cap t made)

@@ -25,6 +25,7 @@ use Rattle.steps.specs.Laws.Credit.{longestPlanned, full-credit}
 use Rattle.steps.specs.Laws.Sound.{SoundScalars, SoundState, DueFrom, arrived-sound}
 use Rattle.judgement.specs.Scalars.{scalarsOf}
 use Rattle.engine.specs.Calls.{newOf, decideOf}
+use Rattle.engine.specs.Changes.{overflowedOf, reboundOf}
 use Rattle.engine.specs.Decide.{afterOf, decideUncheckedOf}
 use Rattle.engine.specs.Engine.{freshOf, stateOf}
 use Rattle.engine.specs.Laws.Refusals.{no-refusal}
@@ -72,6 +73,15 @@ unfolding newOf
 new-sound cfg seed =
     cond-when (λ (c : Changed). SoundEngine (c .engine)) (isSettingsOf cfg) (λ t. fresh-sound cfg seed (is-true (isSettingsOf cfg) t))
     (fresh-sound defaultDirection 0 default-judged)
+
+-- what is counted, and the next rebind, are no part of what keeps an engine sound
+pub overflowed-sound : (e : ArrivalEngine) → SoundEngine e → SoundEngine (overflowedOf e)
+unfolding overflowedOf stateOf
+overflowed-sound e s = record { settings = s .settings; state = s .state }
+
+pub rebound-sound : (e : ArrivalEngine) → SoundEngine e → SoundEngine (reboundOf e)
+unfolding reboundOf stateOf
+rebound-sound e s = record { settings = s .settings; state = s .state }
 
 -- ---- one arrival
 

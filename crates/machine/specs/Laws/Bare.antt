@@ -11,10 +11,10 @@ use Rattle.numbers.specs.Limits.{isLengthOf}
 use Rattle.steps.specs.declared.decision.Decision.{Decision}
 use Rattle.steps.specs.declared.decision.Decision.the-variants.{DropRandom, DropGe, DropMtu, DropBlackout, DropKillHold, Enqueue, KillRst}
 use Rattle.held.specs.Order.{beforeOf}
-use Rattle.held.specs.Copies.{Copy, least, without}
+use Rattle.held.specs.Copies.{Copy, least, without, dueBy, Leaving, noCopy, oneCopy, leastIn, leaving}
 use Rattle.machine.specs.Machine.{Machine, machine, Creation, freshMachine, inRange}
 use Rattle.machine.specs.Calls.{Call, arrive, release, rebind, teardown, report, Answer}
-use Rattle.machine.specs.Steps.{Step, stepTo, unless, Entry, entry, enterCopy, enterCopies, withCopy, entersAs, follow, arriveStep, leaveIfDue, releaseLeast, releaseStep, rebindStep, teardownStep, reportStep, step, answers}
+use Rattle.machine.specs.Steps.{Step, stepTo, unless, Entry, entry, enterCopy, enterCopies, withCopy, entersAs, follow, arriveStep, handOut, releaseStep, rebindStep, teardownStep, reportStep, step, answers}
 use Rattle.machine.specs.Bare.{blank, bareCall, bareCopy, bareAnswer, bareCalls, bareAnswers}
 
 abbrev pub bareMachine : Machine → Machine
@@ -45,13 +45,31 @@ held-last : (l : List Copy) (c : Copy) → map bareCopy (l ++ (c ∷ [])) ≡ ma
 held-last [] c = refl
 held-last (x ∷ l) c = ap (λ (k : List Copy). bareCopy x ∷ k) (held-last l c)
 
--- the first by (due, seq) is the same, and so are those that stay
+-- the least is the same, and so are the copy that leaves and those that stay
 bare-least : (c : Copy) (l : List Copy) → bareCopy (least c l) ≡ least (bareCopy c) (map bareCopy l)
 unfolding least
 bare-least c [] = refl
 bare-least c (x ∷ l) =
     bare-least (cond (beforeOf (x .due) (x .seq) (c .due) (c .seq)) x c) l
     ∙ ap (λ (k : Copy). least k (map bareCopy l)) (either bareCopy (beforeOf (x .due) (x .seq) (c .due) (c .seq)) refl refl)
+
+bare-due : (now : Float) (l : List Copy) → map bareCopy (dueBy now l) ≡ dueBy now (map bareCopy l)
+unfolding dueBy
+bare-due now [] = refl
+bare-due now (c ∷ l) = either (map bareCopy) (le (c .due) now) (ap (λ (k : List Copy). bareCopy c ∷ k) (bare-due now l)) (bare-due now l)
+
+abbrev bareLeaving : Leaving → Leaving
+bareLeaving noCopy = noCopy
+bareLeaving (oneCopy c) = oneCopy (bareCopy c)
+
+bare-least-in : (l : List Copy) → bareLeaving (leastIn l) ≡ leastIn (map bareCopy l)
+unfolding leastIn
+bare-least-in [] = refl
+bare-least-in (c ∷ l) = ap oneCopy (bare-least c l)
+
+bare-leaving : (now : Float) (l : List Copy) → bareLeaving (leaving now l) ≡ leaving now (map bareCopy l)
+unfolding leaving
+bare-leaving now l = bare-least-in (dueBy now l) ∙ ap leastIn (bare-due now l)
 
 bare-without : (seq : ℕ) (l : List Copy) → map bareCopy (without seq l) ≡ without seq (map bareCopy l)
 unfolding without
@@ -60,7 +78,7 @@ bare-without seq (c ∷ l) = either (map bareCopy) (eqb (c .seq) seq) (bare-with
 
 -- ---- steps
 
-bare-unless : (m : Machine) (instant length : Bool) (s : Step) → bareStep (unless m instant length s) ≡ unless (bareMachine m) instant length (bareStep s)
+bare-unless : (m : Machine) (instant short : Bool) (s : Step) → bareStep (unless m instant short s) ≡ unless (bareMachine m) instant short (bareStep s)
 unfolding unless
 bare-unless m i l s = either bareStep (not i) refl (either bareStep (not l) refl (either bareStep (not (inRange (m .engine) (m .accounts) (m .torn) (m .nextSeq))) refl refl))
 
@@ -89,14 +107,13 @@ bare-follow m DropKillHold now bytes route = refl
 bare-follow m (Enqueue due duplicated) now bytes route = ap (entersAs (Enqueue due duplicated)) (bare-enters m due duplicated now bytes route)
 bare-follow m KillRst now bytes route = cc (held-length (m .held))
 
-bare-leave : (m : Machine) (now : Float) (c : Copy) → bareStep (leaveIfDue m now c) ≡ leaveIfDue (bareMachine m) now (bareCopy c)
-unfolding leaveIfDue
-bare-leave m now c = either bareStep (le (c .due) now) (cc (bare-without (c .seq) (m .held))) refl
+bare-hand : (m : Machine) (now : Float) (x : Leaving) → bareStep (handOut m now x) ≡ handOut (bareMachine m) now (bareLeaving x)
+unfolding handOut
+bare-hand m now noCopy = refl
+bare-hand m now (oneCopy c) = cc (bare-without (c .seq) (m .held))
 
-bare-release : (m : Machine) (now : Float) (l : List Copy) → bareStep (releaseLeast m now l) ≡ releaseLeast (bareMachine m) now (map bareCopy l)
-unfolding releaseLeast
-bare-release m now [] = refl
-bare-release m now (c ∷ l) = bare-leave m now (least c l) ∙ ap (leaveIfDue (bareMachine m) now) (bare-least c l)
+bare-release : (m : Machine) (now : Float) → bareStep (handOut m now (leaving now (m .held))) ≡ handOut (bareMachine m) now (leaving now (map bareCopy (m .held)))
+bare-release m now = bare-hand m now (leaving now (m .held)) ∙ ap (handOut (bareMachine m) now) (bare-leaving now (m .held))
 
 bare-arrive : (m : Machine) (now : Float) (bytes : List ℕ) (route : ℕ) → bareStep (arriveStep m now bytes route) ≡ arriveStep (bareMachine m) now (blank bytes) 0
 unfolding arriveStep
@@ -108,7 +125,7 @@ bare-arrive m now bytes route =
 pub bare-step : (m : Machine) (c : Call) → bareStep (step m c) ≡ step (bareMachine m) (bareCall c)
 unfolding step releaseStep rebindStep teardownStep reportStep
 bare-step m (arrive now bytes route) = bare-arrive m now bytes route
-bare-step m (release now) = bare-unless m (isInstantOf now) true _ ∙ ap (unless (bareMachine m) (isInstantOf now) true) (bare-release m now (m .held))
+bare-step m (release now) = bare-unless m (isInstantOf now) true _ ∙ ap (unless (bareMachine m) (isInstantOf now) true) (bare-release m now)
 bare-step m (rebind now) = bare-unless m (isInstantOf now) true _ ∙ ap (unless (bareMachine m) (isInstantOf now) true) (either bareStep (le (m .engine .«next_rebind_ms») now) refl refl)
 bare-step m teardown = bare-unless m true true _ ∙ ap (unless (bareMachine m) true true) (cc (held-length (m .held)))
 bare-step m report = bare-unless m true true _ ∙ ap (unless (bareMachine m) true true) (cc (held-length (m .held)))

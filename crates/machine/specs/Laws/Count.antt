@@ -15,8 +15,8 @@ use Rattle.machine.specs.Machine.{Machine}
 use Rattle.machine.specs.Calls.{Call}
 use Rattle.machine.specs.Steps.{Step, Entry, entry, enterCopy, enterCopies, follow, step, answers, afterAll}
 use Rattle.machine.specs.Tally.{tallyOf, total, cameIn, accountedFor}
-use Rattle.machine.specs.Laws.Cases.{Does, refuses, decides, releases, finds-none, rebinds, keeps, tears, reports, step-does}
-use Rattle.machine.specs.Laws.Held.{InOrder, least-leaves, step-order}
+use Rattle.machine.specs.Laws.Cases.{Does, refuses, decides, releases, finds-none, rebinds, address-stays, tears, reports, step-does}
+use Rattle.machine.specs.Laws.Held.{InOrder, one-leaves, step-order}
 
 -- what came in with a step's answer, beside what was held, is accounted for
 abbrev pub Balances : Machine → Step → Type 0
@@ -48,11 +48,11 @@ follow-balances m KillRst now bytes route = omega arith
 
 does-balances : {m : Machine} {c : Call} {s : Step} → Does m c s → InOrder m → Balances m s
 does-balances (refuses c k r) h = omega arith
-does-balances (decides now bytes route) h = follow-balances _ _ now bytes route
-does-balances {m} (releases now c l e) h = omega (arith, least-leaves m h c l e)
+does-balances (decides now bytes route i l) h = follow-balances _ _ now bytes route
+does-balances {m} (releases now c k) h = omega (arith, one-leaves m h c k)
 does-balances (finds-none now) h = omega arith
 does-balances (rebinds now) h = omega arith
-does-balances (keeps now) h = omega arith
+does-balances (address-stays now) h = omega arith
 does-balances tears h = omega arith
 does-balances reports h = omega arith
 

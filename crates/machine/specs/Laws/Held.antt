@@ -12,12 +12,11 @@ use borrow.Author.Tests.{ne-eqb, eqb-true, eqb-false}
 use Rattle.numbers.specs.Laws.NotNan.{cond-has}
 use Rattle.steps.specs.declared.decision.Decision.{Decision}
 use Rattle.steps.specs.declared.decision.Decision.the-variants.{DropRandom, DropGe, DropMtu, DropBlackout, DropKillHold, Enqueue, KillRst}
-use Rattle.held.specs.Copies.{Copy, least, without, Mem}
-use Rattle.held.specs.Laws.Least.{least-mem}
+use Rattle.held.specs.Copies.{Copy, without, Mem}
 use Rattle.machine.specs.Machine.{Machine, Creation, freshMachine}
 use Rattle.machine.specs.Calls.{Call}
 use Rattle.machine.specs.Steps.{Step, Entry, enterCopy, follow, step}
-use Rattle.machine.specs.Laws.Cases.{Does, refuses, decides, releases, finds-none, rebinds, keeps, tears, reports, step-does, enters-have}
+use Rattle.machine.specs.Laws.Cases.{Does, refuses, decides, releases, finds-none, rebinds, address-stays, tears, reports, step-does, enters-have}
 
 -- the seqs of a list go up from lo or above, and are below hi
 abbrev pub Ascends : ℕ → List Copy → ℕ → Type 0
@@ -62,9 +61,9 @@ without-one c lo (x ∷ l) hi a k = go (eqb (x .seq) (c .seq)) refl k (λ (j : M
     go false e (inl j) ih = absurd (eqb-false _ _ e (ap (λ (y : Copy). y .seq) (sym j)))
     go false e (inr j) ih = omega (arith, ih j)
 
--- one copy less is held when the least has left
-pub least-leaves : (m : Machine) → InOrder m → (c : Copy) (l : List Copy) → m .held ≡ c ∷ l → length (without (least c l .seq) (m .held)) + 1 ≡ length (m .held)
-least-leaves m h c l e = without-one (least c l) 0 (m .held) (m .nextSeq) h (rw e (least-mem c l))
+-- one copy less is held when a copy has left
+pub one-leaves : (m : Machine) → InOrder m → (c : Copy) → Mem c (m .held) → length (without (c .seq) (m .held)) + 1 ≡ length (m .held)
+one-leaves m h c k = without-one c 0 (m .held) (m .nextSeq) h k
 
 -- ---- steps
 
@@ -84,11 +83,11 @@ follow-order m KillRst now bytes route h = omega arith
 
 does-order : {m : Machine} {c : Call} {s : Step} → Does m c s → InOrder m → InOrder (s .then)
 does-order (refuses c k r) h = h
-does-order (decides now bytes route) h = follow-order _ _ now bytes route h
-does-order {m} (releases now c l e) h = ascends-without (least c l .seq) 0 (m .held) (m .nextSeq) h
+does-order (decides now bytes route i l) h = follow-order _ _ now bytes route h
+does-order {m} (releases now c k) h = ascends-without (c .seq) 0 (m .held) (m .nextSeq) h
 does-order (finds-none now) h = h
 does-order (rebinds now) h = h
-does-order (keeps now) h = h
+does-order (address-stays now) h = h
 does-order tears h = omega arith
 does-order reports h = h
 

@@ -1,23 +1,22 @@
 -- Each held copy is one that entered with its seq, and so is each that is handed out.
 use mathlib.Core.Path.{_≡_, refl, sym, ap, _∙_, subst}
-use mathlib.Core.Logic.{_⊎_, inl, inr, ⊎-elim}
-use mathlib.Core.Bool.{Bool, true, false, cond}
+use mathlib.Core.Logic.{_⊎_, inl, inr}
 use mathlib.Core.List.{List, [], _∷_, _++_, append-nil, append-assoc}
 use Prim.Native.Nat.{ℕ, zero, suc, _+_}
 use native.Mathlib.Numerals.{add-one}
-use lib.Dec.{ltb, eqb}
+use lib.Dec.{ltb}
 use lib.Ieee.{Float}
 use lib.ListN.{length, replicate, length-append}
 use Rattle.numbers.specs.Laws.NotNan.{cond-has}
 use Rattle.steps.specs.declared.decision.Decision.{Decision}
 use Rattle.steps.specs.declared.decision.Decision.the-variants.{DropRandom, DropGe, DropMtu, DropBlackout, DropKillHold, Enqueue, KillRst}
-use Rattle.held.specs.Copies.{Copy, copy, least, without, Mem}
-use Rattle.held.specs.Laws.Least.{least-mem}
+use Rattle.held.specs.Copies.{Copy, copy, without, Mem}
+use Rattle.held.specs.Laws.Least.{mem-last, mem-without}
 use Rattle.machine.specs.Machine.{Machine, Creation, freshMachine}
 use Rattle.machine.specs.Calls.{Call, arrive, release, rebind, teardown, report, released, refused}
 use Rattle.machine.specs.Steps.{Step, Entry, enterCopy, follow, step, answers}
 use Rattle.machine.specs.Arrivals.{Brought, brought, enteredBy, At, HandsOut, EachOwn}
-use Rattle.machine.specs.Laws.Cases.{Does, refuses, decides, releases, finds-none, rebinds, keeps, tears, reports, step-does, enters-have}
+use Rattle.machine.specs.Laws.Cases.{Does, refuses, decides, releases, finds-none, rebinds, address-stays, tears, reports, step-does, enters-have}
 
 -- as many have entered as the next seq says, and each copy of the held list may be handed out as one of them
 pub record Known (came : List Brought) (held : List Copy) (next : ℕ) : Type 0 where
@@ -38,22 +37,6 @@ at-before (suc n) (y ∷ l) r x a = at-before n l r x a
 at-end : {A : Type 0} (l : List A) (x : A) → At (length l) (l ++ (x ∷ [])) x
 at-end [] x = refl
 at-end (y ∷ l) x = at-end l x
-
-mem-last : (l : List Copy) (x c : Copy) → Mem c (l ++ (x ∷ [])) → Mem c l ⊎ (c ≡ x)
-mem-last [] x c (inl e) = inr e
-mem-last [] x c (inr k) = absurd k
-mem-last (y ∷ l) x c (inl e) = inl (inl e)
-mem-last (y ∷ l) x c (inr k) = ⊎-elim (λ (j : Mem c l). inl (inr j)) (λ (e : c ≡ x). inr e) (mem-last l x c k)
-
-mem-without : (seq : ℕ) (l : List Copy) (c : Copy) → Mem c (without seq l) → Mem c l
-unfolding without
-mem-without seq [] c k = k
-mem-without seq (x ∷ l) c k = go (eqb (x .seq) seq) k (mem-without seq l c)
-  where
-    go : (b : Bool) → Mem c (cond b (without seq l) (x ∷ without seq l)) → (Mem c (without seq l) → Mem c l) → (c ≡ x) ⊎ Mem c l
-    go true j ih = inr (ih j)
-    go false (inl e) ih = inl e
-    go false (inr j) ih = inr (ih j)
 
 replicate-last : {A : Type 0} (n : ℕ) (x : A) → replicate (suc n) x ≡ replicate n x ++ (x ∷ [])
 replicate-last zero x = refl
@@ -128,15 +111,15 @@ follow-owns came m KillRst now bytes route h = record { hands = tt; known = noth
 
 does-owns : (came : List Brought) {m : Machine} {c : Call} {s : Step} → Does m c s → KnownTo came m → Owns came c s
 does-owns came {m} (refuses c k r) h = record { hands = tt; known = subst (λ (l : List Brought). KnownTo (came ++ l) m) (sym (refused-enters c k)) (nothing-came h) }
-does-owns came (decides now bytes route) h = follow-owns came _ _ now bytes route h
-does-owns came {m} (releases now c l e) h =
+does-owns came (decides now bytes route i l) h = follow-owns came _ _ now bytes route h
+does-owns came {m} (releases now c k) h =
     record {
-      hands = h .own (least c l) (rw e (least-mem c l));
-      known = nothing-came (known-fewer came (m .held) (without (least c l .seq) (m .held)) (m .nextSeq) (mem-without (least c l .seq) (m .held)) h);
+      hands = h .own c k;
+      known = nothing-came (known-fewer came (m .held) (without (c .seq) (m .held)) (m .nextSeq) (mem-without (c .seq) (m .held)) h);
     }
 does-owns came (finds-none now) h = record { hands = tt; known = nothing-came h }
 does-owns came (rebinds now) h = record { hands = tt; known = nothing-came h }
-does-owns came (keeps now) h = record { hands = tt; known = nothing-came h }
+does-owns came (address-stays now) h = record { hands = tt; known = nothing-came h }
 does-owns came {m} tears h = record { hands = tt; known = nothing-came (known-none came (m .held) (m .nextSeq) h) }
 does-owns came reports h = record { hands = tt; known = nothing-came h }
 

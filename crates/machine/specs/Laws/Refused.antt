@@ -8,7 +8,7 @@ use Rattle.steps.specs.declared.decision.Decision.the-variants.{DropRandom, Dro
 use Rattle.machine.specs.Machine.{Machine}
 use Rattle.machine.specs.Calls.{Call, report, Refusal, Answer, decided, released, noneDue, rebound, toreDown, reported, refused}
 use Rattle.machine.specs.Steps.{Step, follow, step}
-use Rattle.machine.specs.Laws.Cases.{Does, refuses, decides, releases, finds-none, rebinds, keeps, tears, reports, step-does}
+use Rattle.machine.specs.Laws.Cases.{Does, refuses, decides, releases, finds-none, rebinds, address-stays, tears, reports, step-does}
 
 -- an answer that is no refusal
 abbrev Taken : Answer → Type 0
@@ -43,11 +43,11 @@ refused-number k n e = cc
 
 does-refuses : {m : Machine} {c : Call} {s : Step} → Does m c s → (k : ℕ) → s .answer ≡ refused k → Refuses m s k
 does-refuses (refuses c n r) k e = record { one-of = subst Refusal (refused-number n k e) r; stays = refl }
-does-refuses (decides now bytes route) k e = absurd (taken-not k (follow-taken _ _ now bytes route) e)
-does-refuses (releases now c l h) k e = absurd (taken-not k tt e)
+does-refuses (decides now bytes route i l) k e = absurd (taken-not k (follow-taken _ _ now bytes route) e)
+does-refuses (releases now c h) k e = absurd (taken-not k tt e)
 does-refuses (finds-none now) k e = absurd (taken-not k tt e)
 does-refuses (rebinds now) k e = absurd (taken-not k tt e)
-does-refuses (keeps now) k e = absurd (taken-not k tt e)
+does-refuses (address-stays now) k e = absurd (taken-not k tt e)
 does-refuses tears k e = absurd (taken-not k tt e)
 does-refuses reports k e = absurd (taken-not k tt e)
 

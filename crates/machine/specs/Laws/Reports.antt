@@ -19,8 +19,8 @@ use Rattle.engine.specs.declared.engine.ArrivalEngine.{ArrivalEngine}
 use Rattle.machine.specs.Machine.{Machine, Creation, freshMachine}
 use Rattle.machine.specs.Calls.{Call}
 use Rattle.machine.specs.Steps.{Step, Entry, entry, withEngine, enterCopy, resetOf, follow, step, answers}
-use Rattle.machine.specs.Tally.{Tally, tally, nothing, arrival, tallyOf, plus, cameIn, accountedFor, Told, Tells, EachTells}
-use Rattle.machine.specs.Laws.Cases.{Does, refuses, decides, releases, finds-none, rebinds, keeps, tears, reports, step-does, enters-have}
+use Rattle.machine.specs.Tally.{Tally, nothing, arrival, tallyOf, plus, cameIn, accountedFor, Told, Tells, EachTells}
+use Rattle.machine.specs.Laws.Cases.{Does, refuses, decides, releases, finds-none, rebinds, address-stays, tears, reports, step-does, enters-have}
 use Rattle.machine.specs.Laws.Held.{InOrder, step-order}
 use Rattle.machine.specs.Laws.Count.{step-balances}
 
@@ -51,7 +51,7 @@ Balanced x m = cameIn x ≡ accountedFor x (length (m .held))
 -- ---- steps
 
 abbrev overflows : ℕ → Tally
-overflows n = tally 0 0 0 0 0 0 0 n 0 0
+overflows n = record { received = 0; random = 0; ge = 0; mtu = 0; blackout = 0; reset = 0; duplicates = 0; overflow = n; released = 0; torn = 0 }
 
 -- copies that enter change no count but the overflow
 module _ (x : Tally) (due now : Float) (bytes : List ℕ) (route : ℕ) where
@@ -80,11 +80,11 @@ follow-counts x m e KillRst now bytes route h k = omega arith
 does-counts : (x : Tally) {m : Machine} {c : Call} {s : Step} → Does m c s → Counted x m → Counts x s
 unfolding reboundOf withOthers sentOf
 does-counts x (refuses c k r) h = omega arith
-does-counts x {m} (decides now bytes route) h = follow-counts x m _ _ now bytes route h (decide-counts (m .engine) now (length bytes))
-does-counts x (releases now c l e) h = omega arith
+does-counts x {m} (decides now bytes route i l) h = follow-counts x m _ _ now bytes route h (decide-counts (m .engine) now (length bytes))
+does-counts x (releases now c k) h = omega arith
 does-counts x (finds-none now) h = omega arith
 does-counts x (rebinds now) h = omega arith
-does-counts x (keeps now) h = omega arith
+does-counts x (address-stays now) h = omega arith
 does-counts x tears h = omega arith
 does-counts x reports h = omega arith
 
@@ -106,11 +106,11 @@ follow-tells x m KillRst now bytes route = tt
 
 does-tells : (x : Tally) {m : Machine} {c : Call} {s : Step} → Does m c s → Counted x m → Balanced x m → Tells x (s .answer)
 does-tells x (refuses c k r) h b = tt
-does-tells x (decides now bytes route) h b = follow-tells x _ _ now bytes route
-does-tells x (releases now c l e) h b = tt
+does-tells x (decides now bytes route i l) h b = follow-tells x _ _ now bytes route
+does-tells x (releases now c k) h b = tt
 does-tells x (finds-none now) h b = tt
 does-tells x (rebinds now) h b = tt
-does-tells x (keeps now) h b = tt
+does-tells x (address-stays now) h b = tt
 does-tells x tears h b = tt
 does-tells x {m} reports h b = merged-tells x m h b
 

@@ -15,7 +15,8 @@ use Rattle.numbers.specs.Laws.Limits.{counter-below}
 use Rattle.numbers.specs.Limits.{maxCapacity, isCounterOf}
 use Rattle.numbers.specs.Refusals.{refusedInstant, refusedLength, refusedCounter, refusedDue, refusedFull}
 use Rattle.numbers.specs.Whole.{whole}
-use Rattle.held.specs.Copies.{Copy}
+use Rattle.held.specs.Copies.{Copy, dueBy, leastIn, Leaving, leaving}
+use Rattle.held.specs.Laws.Due.{ifDue, least-due}
 use Rattle.tournament.specs.Calls.{leastOf}
 use Rattle.queue.specs.Tables.{Tables, After, after}
 use Rattle.queue.specs.Refusals.{memoryOf, inKeeping, refusalOf, pushRefusal, releaseRefusal, stateRefusal, dueRefusal}
@@ -24,13 +25,13 @@ use Rattle.queue.specs.declared.queue.ImpairQueue.{ImpairQueue}
 use Rattle.queue.specs.declared.answers.Released.{Released}
 use Rattle.queue.specs.declared.answers.DueAnswer.the-variants as due
 use Rattle.queue.specs.declared.answers.ReleaseAnswer.the-variants as release
-use Rattle.queue_laws.specs.Held.{Plain, Step, stepTo, entered, noneDue, drained, refused, isFull, withCopy, secondPlain, pushPlain, releasePlain, releaseLeast, leaveIfDue, drainPlain, leastDue, nextDuePlain}
+use Rattle.queue_laws.specs.Held.{Plain, Step, stepTo, entered, noneDue, drained, refused, isFull, withCopy, secondPlain, pushPlain, handOut, releasePlain, drainPlain, leastDue, nextDuePlain}
 use Rattle.queue_laws.specs.Replies.{Said, said, saidByPush, saidByRelease, saidByDrain}
 use Rattle.queue_laws.specs.Laws.Rows.{seqLimit}
 use Rattle.queue_laws.specs.Laws.Keeps.{Keeps, rowOf}
 use Rattle.queue_laws.specs.Laws.Creation.{long-memory, drained-keeps}
 use Rattle.queue_laws.specs.Laws.Push.{Entered, copy-enters}
-use Rattle.queue_laws.specs.Laws.Release.{some-held, root-below, root-least, release-keeps}
+use Rattle.queue_laws.specs.Laws.Release.{some-held, root-below, number-dues, root-least, release-keeps}
 
 -- what a call says and leaves agrees with a step of the plain queue
 pub record Agree (width : ℕ) (s : Said) (step : Step) : Type 0 where
@@ -169,11 +170,15 @@ module _ (width : ℕ) (t : Tables) (q : ImpairQueue) (p : Plain) (k : Keeps wid
 
     -- a release, at any instant
     pub release-agrees : Agree width (saidByRelease width (releaseOf width q t now)) (releasePlain p now)
-    unfolding releasePlain releaseLeast leaveIfDue refusalOf leftOf
+    unfolding releasePlain handOut leaving dueBy leastIn refusalOf leftOf
     release-agrees = go (isInstantOf now) refl (isCounterOf (p .nextSeq)) refl (p .held) refl
       where
+        -- the least of all, if it is due
+        root-leaves : (c : Copy) (l : List Copy) → p .held ≡ c ∷ l → leaving now (p .held) ≡ ifDue now (rowOf width t root)
+        root-leaves c l e = ap (leaving now) e ∙ least-due now c l (number-dues width t q p k c l e) ∙ ap (ifDue now) (root-least width t q p k c l e)
+
         due-or-not : (c : Copy) (l : List Copy) (e : p .held ≡ c ∷ l) (b : Bool) → le (getD (t .dues) root (whole 0)) now ≡ b
-            → Agree width (saidByRelease width (byDue b)) (leaveIfDue p now (rowOf width t root))
+            → Agree width (saidByRelease width (byDue b)) (handOut p (ifDue now (rowOf width t root)))
         due-or-not c l e true h = rw h (record { says = refl; keeps = release-keeps width t q p k c l e })
         due-or-not c l e false h = rw h (record { says = refl; keeps = k })
 
@@ -181,10 +186,10 @@ module _ (width : ℕ) (t : Tables) (q : ImpairQueue) (p : Plain) (k : Keeps wid
         go false ea b eb h eh = rw (release-refused refusedInstant (λ z. omega arith) (release-tests now ∙ (rw ea)), ea) (refuses refusedInstant)
         go true ea false eb h eh = rw (release-refused refusedCounter (λ z. omega arith) (release-tests now ∙ (rw (ea, eb))), ea, eb) (refuses refusedCounter)
         go true ea true eb [] eh = rw (release-empty (release-tests now ∙ (rw (ea, eb))) (k .count ∙ ap length eh), ea, eb)
-            (subst (λ (h : List Copy). Agree width (said noneDue q t) (releaseLeast p now h)) (sym eh) (record { says = refl; keeps = k }))
+            (subst (λ (h : List Copy). Agree width (said noneDue q t) (handOut p (leaving now h))) (sym eh) (record { says = refl; keeps = k }))
         go true ea true eb (c ∷ l) eh = rw (release-root (release-tests now ∙ (rw (ea, eb))) c l eh, ea, eb)
-            (subst (λ (h : List Copy). Agree width (saidByRelease width (byDue (le (getD (t .dues) root (whole 0)) now))) (releaseLeast p now h)) (sym eh)
-            (subst (λ (x : Copy). Agree width (saidByRelease width (byDue (le (getD (t .dues) root (whole 0)) now))) (leaveIfDue p now x)) (sym (root-least width t q p k c l eh)) (due-or-not c l eh (le (getD (t .dues) root (whole 0)) now) refl)))
+            (subst (λ (x : Leaving). Agree width (saidByRelease width (byDue (le (getD (t .dues) root (whole 0)) now))) (handOut p x)) (sym (root-leaves c l eh))
+            (due-or-not c l eh (le (getD (t .dues) root (whole 0)) now) refl))
 
   -- ---- drain
 

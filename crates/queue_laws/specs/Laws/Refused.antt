@@ -6,19 +6,19 @@ use mathlib.Core.Bool.{Bool, true, false, cond, not, _&&_}
 use Prim.Native.Nat.{ℕ, _≤_}
 use native.Mathlib.Omega.{arith}
 use lib.Dec.{leb, eqb, eqb→eq}
-use lib.Ieee.{Float, le, isNan}
+use lib.Ieee.{Float, isNan}
 use lib.ListN.{length}
 use borrow.Author.Tests.{eq-eqb, le-leb}
 use Rattle.numbers.specs.Instant.{isInstantOf}
 use Rattle.numbers.specs.Laws.NotNan.{cond-has, cond-when}
 use Rattle.numbers.specs.Limits.{isCounterOf}
 use Rattle.numbers.specs.Refusals.{refusedInstant, refusedLength, refusedMemory, refusedCounter, refusedKeeping, refusedDue, refusedFull}
-use Rattle.held.specs.Copies.{Copy, least}
+use Rattle.held.specs.Copies.{Copy, Leaving, noCopy, oneCopy, leaving}
 use Rattle.queue.specs.Tables.{Tables}
 use Rattle.queue.specs.Calls.{pushOf, nextDueOf}
 use Rattle.queue.specs.declared.queue.ImpairQueue.{ImpairQueue}
 use Rattle.queue.specs.declared.answers.DueAnswer.the-variants as due
-use Rattle.queue_laws.specs.Held.{Plain, Step, stepTo, Call, push, release, drain, entered, released, noneDue, drained, refused, isFull, withCopy, secondPlain, pushPlain, releasePlain, releaseLeast, leaveIfDue, drainPlain, leastDue, nextDuePlain, step}
+use Rattle.queue_laws.specs.Held.{Plain, Step, stepTo, Call, push, release, drain, entered, released, noneDue, drained, refused, isFull, withCopy, secondPlain, pushPlain, handOut, releasePlain, drainPlain, leastDue, nextDuePlain, step}
 use Rattle.queue_laws.specs.Replies.{answerTo, saidByPush}
 use Rattle.queue_laws.specs.Laws.Keeps.{Keeps}
 use Rattle.queue_laws.specs.Laws.Agree.{push-agrees, due-agrees}
@@ -51,21 +51,17 @@ push-clear width p due arrival route id duplicated bytes =
     (cond-has Clear (isFull p) (clear-refused refusedFull p ((λ z. omega arith), λ z. omega arith))
     (cond-has Clear (duplicated && not (isFull (withCopy p due arrival route id bytes))) (clear-entered (p .nextSeq) 2 (withCopy (withCopy p due arrival route id bytes) due arrival route 1 bytes)) (clear-entered (p .nextSeq) 1 (withCopy p due arrival route id bytes)))))))
 
-leave-clear : (p : Plain) (now : Float) (c : Copy) → Clear (leaveIfDue p now c)
-unfolding leaveIfDue
-leave-clear p now c = cond-has Clear (le (c .due) now) (λ (n : ℕ) (e : released c ≡ refused n). let z : _≡_ {A = ℕ} 0 1 = cc in absurd (omega arith)) (clear-none p)
-
-least-clear : (p : Plain) (now : Float) (l : List Copy) → Clear (releaseLeast p now l)
-unfolding releaseLeast
-least-clear p now [] = clear-none p
-least-clear p now (c ∷ l) = leave-clear p now (least c l)
+hand-clear : (p : Plain) (x : Leaving) → Clear (handOut p x)
+unfolding handOut
+hand-clear p noCopy = clear-none p
+hand-clear p (oneCopy c) = λ (n : ℕ) (e : released c ≡ refused n). let z : _≡_ {A = ℕ} 0 1 = cc in absurd (omega arith)
 
 release-clear : (p : Plain) (now : Float) → Clear (releasePlain p now)
 unfolding releasePlain
 release-clear p now =
     cond-has Clear (not (isInstantOf now)) (clear-refused refusedInstant p ((λ z. omega arith), λ z. omega arith))
     (cond-has Clear (not (isCounterOf (p .nextSeq))) (clear-refused refusedCounter p ((λ z. omega arith), λ z. omega arith))
-    (least-clear p now (p .held)))
+    (hand-clear p (leaving now (p .held))))
 
 drain-clear : (p : Plain) → Clear (drainPlain p)
 unfolding drainPlain

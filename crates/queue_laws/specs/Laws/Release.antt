@@ -10,9 +10,9 @@ use lib.Seq.{getD-set-same, getD-set-other}
 use lib.Ieee.{Float}
 use Rattle.numbers.specs.Whole.{whole}
 use Rattle.held.specs.Order.{beforeOf}
-use Rattle.held.specs.Copies.{Copy, least, without, Mem}
+use Rattle.held.specs.Copies.{Copy, least, without, Mem, NumberDues}
 use Rattle.held.specs.Laws.Order.{before-same}
-use Rattle.held.specs.Laws.Least.{Sized, least-mem, least-le}
+use Rattle.held.specs.Laws.Least.{least-mem, least-le}
 use Rattle.tournament.specs.Nodes.{lessOf}
 use Rattle.tournament.specs.Paths.{carriedOf}
 use Rattle.tournament.specs.Growth.{freeDue, freeSeq, Tree}
@@ -66,8 +66,8 @@ module _ (width : ℕ) (t : Tables) (q : ImpairQueue) (p : Plain) (k : Keeps wid
   root-in : Mem (rowOf width t root) (c ∷ l)
   root-in = perm-mem _ (perm-sym perm) (view-mem (rowOf width t) (q .leaves) root root-below root-live)
 
-  sized : Sized (c ∷ l)
-  sized x h = let o = place x h in rw (o .is) (nums width t q p k (o .slot) (o .low))
+  pub number-dues : NumberDues (c ∷ l)
+  number-dues x h = let o = place x h in rw (o .is) (nums width t q p k (o .slot) (o .low))
 
   -- the least copy is the root's
   pub root-least : least c l ≡ rowOf width t root
@@ -77,7 +77,7 @@ module _ (width : ℕ) (t : Tables) (q : ImpairQueue) (p : Plain) (k : Keeps wid
       go : Place (rowOf width t) (q .leaves) (least c l) → least c l ≡ rowOf width t root
       go o = o .is ∙ ap (rowOf width t) (k .uniq root (o .slot) root-below (o .low) root-live
           (before-same _ _ _ _ (least-key (o .slot) (o .low))
-          (subst (λ (x : Copy). beforeOf (getD (t .dues) root (whole 0)) (getD (t .seqs) root 0) (x .due) (x .seq) ≡ false) (o .is) (least-le c l sized (rowOf width t root) root-in))))
+          (subst (λ (x : Copy). beforeOf (getD (t .dues) root (whole 0)) (getD (t .seqs) root 0) (x .due) (x .seq) ≡ false) (o .is) (least-le c l number-dues (rowOf width t root) root-in))))
 
   abbrev t″ : Tables
   t″ = tables (carriedOf (set (t .dues) root freeDue) (set (t .seqs) root freeSeq) (q .leaves) (q .leaves + root) (t .win) (q .leaves + root) root) (set (t .free) (q .opened - q .held) root) (set (t .dues) root freeDue) (set (t .seqs) root freeSeq)
