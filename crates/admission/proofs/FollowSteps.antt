@@ -1,19 +1,21 @@
 -- What follows each decision from its call, over plain variables.
-use mathlib.Core.Path.{_≡_, ap}
+use mathlib.Core.Path.{_≡_, sym, ap, _∙_, subst}
 use mathlib.Core.Bool.{Bool}
 use mathlib.Core.List.{List, [], _∷_}
-use Prim.Native.Nat.{ℕ}
+use Prim.Native.Nat.{ℕ, _≤_}
 use lib.Ieee.{Float}
 use types.Run.{OneOf, miss}
 use denote.Enum.Declared.{tagOf}
+use Rattle.queue.specs.Calls.{pushOf}
 use Rattle.queue.specs.Tables.{Tables, After, after}
 use Rattle.queue.specs.declared.queue.ImpairQueue.{ImpairQueue}
+use Rattle.queue.specs.declared.answers.Pushed.{Pushed}
 use Rattle.steps.proofs.decision.Decision.{the-type}
 use Rattle.steps.specs.declared.decision.Decision.{Decision}
 use Rattle.steps.specs.declared.decision.Decision.the-variants.{DropRandom, DropGe, DropMtu, DropBlackout, DropKillHold, Enqueue, KillRst}
-use Rattle.admission.specs.Admitted.{untouched, tornOf}
-use Rattle.admission.specs.Copies.{copiesOf}
-use Rattle.admission.specs.Follow.{followOf}
+use Rattle.admission.specs.Admitted.{untouched, askedOf, copiesIn, talliedOf, tornOf}
+use Rattle.admission.specs.Follow.{copiesOf, followOf}
+use Rattle.admission.specs.Laws.Bounds.{push-within}
 use Rattle.admission.specs.declared.admitted.Admitted.{Admitted}
 
 -- the positions of the drops among the decisions
@@ -21,10 +23,16 @@ abbrev pub drops : List ℕ
 drops = 0 ∷ 1 ∷ 2 ∷ 3 ∷ 4 ∷ []
 
 module _ (width : ℕ) (q : ImpairQueue) (t : Tables) (d : Decision) (now : Float) (route : ℕ) (bytes : List ℕ) where
-  pub enqueue-follows : (due : Float) (duplicated : Bool) (x : After Admitted) → d ≡ Enqueue due duplicated → x ≡ copiesOf width q t duplicated due now route bytes
-      → x ≡ followOf width q t d now route bytes
-  unfolding followOf
-  enqueue-follows due duplicated x ed ex = rw ed ex
+  module _ (due : Float) (duplicated : Bool) (p : After Pushed) (ep : p ≡ pushOf width q t due now route 0 duplicated bytes) where
+    -- no more copies entered than the packet has
+    pub pushed-within : copiesIn (p .gives .answer) ≤ askedOf duplicated
+    pushed-within = subst (λ (o : After Pushed). copiesIn (o .gives .answer) ≤ askedOf duplicated) (sym ep) (push-within width q t due now route 0 duplicated bytes)
+
+    pub enqueue-follows : (x : Admitted) → d ≡ Enqueue due duplicated → x ≡ talliedOf (p .gives) duplicated → after x (p .memory) ≡ followOf width q t d now route bytes
+    unfolding followOf copiesOf
+    enqueue-follows x ed ex =
+        rw ed
+        (ap (λ (a : Admitted). after a (p .memory)) ex ∙ ap (λ (o : After Pushed). after (talliedOf (o .gives) duplicated) (o .memory)) ep)
 
   pub reset-follows : (x : Admitted) → d ≡ KillRst → x ≡ tornOf q → after x t ≡ followOf width q t d now route bytes
   unfolding followOf

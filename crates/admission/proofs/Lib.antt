@@ -1,2 +1,2 @@
-pub mod CopySteps
+pub mod TallySteps
 pub mod FollowSteps

@@ -1,6 +1,6 @@
 -- What an arrival did to the queue, counted.
-use mathlib.Core.Bool.{cond}
-use Prim.Native.Nat.{ℕ, _+_}
+use mathlib.Core.Bool.{Bool, cond}
+use Prim.Native.Nat.{ℕ, _-_}
 use lib.Dec.{eqb}
 use Rattle.numbers.specs.Refusals.{refusedKeeping, refusedFull}
 use Rattle.queue.specs.Calls.{drainOf}
@@ -19,13 +19,22 @@ admitted q i o t r n = record { queue = q; entered = i; overflowed = o; torn = t
 abbrev pub untouched : ImpairQueue → Admitted
 untouched q = admitted q 0 0 0 0 0
 
--- "each enters with the next seq, or the engine's overflow + 1"; any other refusal means that state or memory was altered: 26
-unfoldable pub talliedBy : PushAnswer → ImpairQueue → ℕ → ℕ → Admitted
-talliedBy (push.Entered slot seq) q i o = admitted q (i + 1) o 0 0 0
-talliedBy (push.Refused k) q i o = cond (eqb k refusedFull) (admitted q i (o + 1) 0 0 0) (admitted q i o 0 0 refusedKeeping)
+-- a packet has one copy, and two if it is duplicated
+abbrev pub askedOf : Bool → ℕ
+askedOf duplicated = cond duplicated 2 1
 
-abbrev pub talliedOf : Pushed → ℕ → ℕ → Admitted
-talliedOf p i o = talliedBy (p .answer) (p .queue) i o
+-- how many copies an answer says to have entered
+unfoldable pub copiesIn : PushAnswer → ℕ
+copiesIn (push.Entered seq copies) = copies
+copiesIn (push.Refused k) = 0
+
+-- "each enters with the next seq, or the engine's overflow + 1"; any other refusal than 28 means that state or memory was altered: 26
+unfoldable pub talliedBy : PushAnswer → ImpairQueue → ℕ → Admitted
+talliedBy (push.Entered seq copies) q asked = admitted q copies (asked - copies) 0 0 0
+talliedBy (push.Refused k) q asked = cond (eqb k refusedFull) (admitted q 0 asked 0 0 0) (admitted q 0 0 0 0 refusedKeeping)
+
+abbrev pub talliedOf : Pushed → Bool → Admitted
+talliedOf p duplicated = talliedBy (p .answer) (p .queue) (askedOf duplicated)
 
 -- "KillRst: .. held copies move to torn"
 unfoldable pub tornBy : DrainAnswer → ImpairQueue → Admitted

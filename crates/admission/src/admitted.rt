@@ -1,7 +1,7 @@
 // What an arrival did to the queue, counted.
 ghost use mathlib.Core.Path.{_≡_};
-ghost use Prim.Native.Nat.{_<_};
-ghost use Rattle.admission.specs.Admitted.{admitted, untouched, talliedOf, tornOf};
+ghost use Prim.Native.Nat.{_≤_};
+ghost use Rattle.admission.specs.Admitted.{admitted, untouched, askedOf, copiesIn, talliedOf, tornOf};
 use numbers::REFUSED_FULL;
 use numbers::REFUSED_KEEPING;
 use queue::DrainAnswer;
@@ -41,20 +41,30 @@ pub(crate) fn untouched(queue: ImpairQueue) -> Admitted
     counted(queue, 0, 0, 0)
 }
 
-// One copy more entered, or one more overflowed where the queue is full.
-pub(crate) fn tallied(pushed: Pushed, entered: u64, overflowed: u64) -> Admitted
-    requires { ⌜ (entered < 2) × (overflowed < 2) ⌝ }
-    ensures { λ r. ⌜ r ≡ talliedOf pushed entered overflowed ⌝ }
+// How many copies a packet has.
+fn asked(duplicated: bool) -> u64
+    ensures { λ r. ⌜ r ≡ askedOf duplicated ⌝ }
+{
+    if duplicated { 2 } else { 1 }
+}
+
+// The copies that entered; those that did not have overflowed.
+pub(crate) fn tallied(pushed: Pushed, duplicated: bool) -> Admitted
+    requires { ⌜ copiesIn (pushed .answer) ≤ askedOf duplicated ⌝ }
+    ensures { λ r. ⌜ r ≡ talliedOf pushed duplicated ⌝ }
 {
     let queue = pushed.queue;
     let answer = pushed.answer;
+    let asked = asked(duplicated);
     match answer {
-        PushAnswer::Entered { .. } => counted(queue, entered + 1, overflowed, 0),
+        PushAnswer::Entered { copies, .. } => {
+            counted(queue, copies as u64, asked - copies as u64, 0)
+        }
         PushAnswer::Refused(number) => {
             if number == REFUSED_FULL {
-                counted(queue, entered, overflowed + 1, 0)
+                counted(queue, 0, asked, 0)
             } else {
-                counted(queue, entered, overflowed, REFUSED_KEEPING)
+                counted(queue, 0, 0, REFUSED_KEEPING)
             }
         }
     }

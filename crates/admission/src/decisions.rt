@@ -5,7 +5,6 @@ ghost use Rattle.queue.specs.Tables.{tables, after};
 ghost use Rattle.admission.specs.Follow.{followOf};
 use crate::admitted;
 use crate::admitted::Admitted;
-use crate::copies;
 use queue::ImpairQueue;
 use steps::Decision;
 
@@ -29,23 +28,26 @@ pub fn follow(
     ensures { λ r. ⌜ after r (tables (now (win .exit)) (now (free .entry)) (now (dues .exit)) (now (seqs .exit)) (now (arrivals .exit)) (now (routes .exit)) (now («copy_ids» .exit)) (now (lengths .exit)) (now (store .exit))) ≡ followOf slotWidth queue (tables (now (win .entry)) (now (free .entry)) (now (dues .entry)) (now (seqs .entry)) (now (arrivals .entry)) (now (routes .entry)) (now («copy_ids» .entry)) (now (lengths .entry)) (now (store .entry))) decision «now_ms» route (now (bytes .entry)) ⌝ }
 {
     match decision {
-        Decision::Enqueue { due_ms, extra_dup } => copies::admit(
-            queue,
-            win,
-            free,
-            dues,
-            seqs,
-            arrivals,
-            routes,
-            copy_ids,
-            lengths,
-            store,
-            extra_dup,
-            due_ms,
-            now_ms,
-            route,
-            bytes,
-        ),
+        Decision::Enqueue { due_ms, extra_dup } => {
+            let pushed = queue.push(
+                win,
+                free,
+                dues,
+                seqs,
+                arrivals,
+                routes,
+                copy_ids,
+                lengths,
+                store,
+                due_ms,
+                now_ms,
+                route,
+                0,
+                extra_dup,
+                bytes,
+            );
+            admitted::tallied(pushed, extra_dup)
+        }
         Decision::KillRst => admitted::torn(queue),
         _ => admitted::untouched(queue),
     }

@@ -1,6 +1,5 @@
 // What a decided arrival does to the queue: its copies enter or overflow, and a reset tears the held ones down.
 mod admitted;
-mod copies;
 mod decisions;
 
 pub use admitted::Admitted;

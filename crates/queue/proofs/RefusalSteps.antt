@@ -1,7 +1,7 @@
 -- What the refusals are made of, and what a call that meets none has passed.
 use mathlib.Core.Path.{_≡_, refl, sym, ap, _∙_}
 use mathlib.Core.Bool.{Bool, true, false, not, _&&_, Bool·not-not}
-use Prim.Native.Nat.{ℕ, _≤_, min}
+use Prim.Native.Nat.{ℕ, _<_, _≤_, _^_, min}
 use native.Mathlib.Omega.{arith}
 use lib.Dec.{leb, eqb}
 use lib.Ieee.{Float, isNan, eq, ne}
@@ -11,6 +11,7 @@ use Rattle.numbers.specs.Instant.{isInstantOf}
 use Rattle.numbers.specs.Limits.{maxCapacity, isCounterOf}
 use Rattle.numbers.specs.Laws.Both.{both-true}
 use Rattle.numbers.specs.Laws.Kinds.{nan-differs}
+use Rattle.numbers.specs.Laws.Limits.{counter-below}
 use Rattle.queue.specs.Tables.{Tables}
 use Rattle.queue.specs.Refusals.{refusalOf, roomOf, memoryOf, inKeeping, pushRefusal, releaseRefusal}
 use Rattle.queue.specs.Room.{hasRoom, shortestOf}
@@ -58,16 +59,16 @@ sound q keeping =
     }
 
 -- what a push that meets no refusal has passed
-pub record Passed (counter : Bool) (width : ℕ) (q : ImpairQueue) (len : ℕ) : Type 0 where
+pub record Passed (width : ℕ) (q : ImpairQueue) (len : ℕ) : Type 0 where
   pub state : Sound q
-  pub seq : counter ≡ true
+  pub seq : q .«next_seq» < 2 ^ 60
   pub fits : len ≤ width
 
-pub push-passed : (counter : Bool) (width : ℕ) (q : ImpairQueue) (memory : Bool) (due arrival : Float) (len : ℕ) → pushRefusal counter width q memory due arrival len ≡ 0 → Passed counter width q len
+pub push-passed : (width : ℕ) (q : ImpairQueue) (memory : Bool) (due arrival : Float) (len : ℕ) → pushRefusal width q memory due arrival len ≡ 0 → Passed width q len
 unfolding pushRefusal
-push-passed counter width q memory due arrival len h =
-    let all = all-pass memory (isInstantOf arrival) (leb len width) (not (isNan due)) counter (inKeeping q) (not (eqb (q .held) (q .cap))) h in
-    record { state = sound q (all .keeping-passes); seq = all .counter-passes; fits = leb-true len width (all .len-passes) }
+push-passed width q memory due arrival len h =
+    let all = all-pass memory (isInstantOf arrival) (leb len width) (not (isNan due)) (isCounterOf (q .«next_seq»)) (inKeeping q) (not (eqb (q .held) (q .cap))) h in
+    record { state = sound q (all .keeping-passes); seq = counter-below (q .«next_seq») (all .counter-passes); fits = leb-true len width (all .len-passes) }
 
 pub release-passed : (q : ImpairQueue) (memory : Bool) (now : Float) → releaseRefusal q memory now ≡ 0 → Sound q
 unfolding releaseRefusal

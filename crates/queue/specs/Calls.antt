@@ -1,12 +1,12 @@
 -- What each call gives for any state, memory and arguments: the state that comes back with the answer, and the tables. A refused call hands back the state
 -- that it was given and leaves the tables as they were.
-use mathlib.Core.Bool.{Bool, true, cond, not, _&&_}
+use mathlib.Core.Bool.{Bool, true, false, cond, not, _&&_}
 use mathlib.Core.List.{List}
-use Prim.Native.Nat.{ℕ, _+_, _-_, _^_, max}
+use Prim.Native.Nat.{ℕ, _+_, _-_, max}
 use lib.Dec.{leb, eqb}
 use lib.Ieee.{Float, le}
 use lib.ListN.{getD, length, set}
-use Rattle.numbers.specs.Limits.{maxCapacity, isCounterOf}
+use Rattle.numbers.specs.Limits.{maxCapacity}
 use Rattle.numbers.specs.Refusals.{refusedMemory, refusedCapacity, refusedKeeping}
 use Rattle.numbers.specs.Whole.{whole}
 use Rattle.tables.specs.Slots.{partOf}
@@ -15,6 +15,7 @@ use Rattle.tournament.specs.Growth.{Tree}
 use Rattle.queue.specs.Tables.{Tables, After, after, Rows, rowsOf, writtenOf, treeOf, joined}
 use Rattle.queue.specs.Refusals.{memoryOf, pushRefusal, releaseRefusal, stateRefusal, dueRefusal}
 use Rattle.queue.specs.declared.queue.ImpairQueue.{ImpairQueue}
+use Rattle.queue.specs.declared.push.CopyEntered.{CopyEntered}
 use Rattle.queue.specs.declared.answers.Created.{Created}
 use Rattle.queue.specs.declared.answers.CreateAnswer.the-variants as create
 use Rattle.queue.specs.declared.answers.Pushed.{Pushed}
@@ -67,25 +68,47 @@ oneMore q leaves = queue (q .cap) (q .held + 1) (q .«next_seq» + 1) leaves (ma
 abbrev pub notPushed : ImpairQueue → ℕ → Pushed
 notPushed q k = record { queue = q; answer = push.Refused k }
 
--- the copy enters the slot with the next seq
-unfoldable pub enteredOf : ImpairQueue → Tree → List ℕ → Rows → ℕ → After Pushed
-enteredOf q g free r slot = after (record { queue = oneMore q (g .leaves); answer = push.Entered slot (q .«next_seq») }) (joined g free r)
+-- the state after one copy, whether its slot was in range, and the tables
+abbrev pub AfterCopy : Type 0
+AfterCopy = After CopyEntered
 
--- a push, given whether 25 lets the next seq through
-unfoldable pub pushIf : Bool → ℕ → ImpairQueue → Tables → Float → Float → ℕ → ℕ → List ℕ → After Pushed
-pushIf counter width q t due arrival route id bytes =
-    cond (eqb (pushRefusal counter width q (memoryOf width (q .cap) t) due arrival (length bytes)) 0)
-    (cond (fitsOf (q .cap) (q .leaves) (nextSlot q (t .free)))
-    (enteredOf q (enterOf (q .cap) (nextSlot q (t .free)) due (q .«next_seq») (treeOf (q .leaves) t)) (t .free) (writtenOf width (rowsOf t) (nextSlot q (t .free)) arrival route id bytes) (nextSlot q (t .free)))
-    (after (notPushed q refusedKeeping) t))
-    (after (notPushed q (pushRefusal counter width q (memoryOf width (q .cap) t) due arrival (length bytes))) t)
+-- a copy stands in the tables with the next seq
+unfoldable pub enteredOf : ImpairQueue → Tree → List ℕ → Rows → AfterCopy
+enteredOf q g free r = after (record { queue = oneMore q (g .leaves); fits = true }) (joined g free r)
 
-unfoldable pub pushOf : ℕ → ImpairQueue → Tables → Float → Float → ℕ → ℕ → List ℕ → After Pushed
-pushOf width q t due arrival route id bytes = pushIf (isCounterOf (q .«next_seq»)) width q t due arrival route id bytes
+-- one copy enters the next slot; where that is out of range, as only altered memory makes it, nothing is written
+unfoldable pub enterCopyOf : ℕ → ImpairQueue → Tables → Float → Float → ℕ → ℕ → List ℕ → AfterCopy
+enterCopyOf width q t due arrival route id bytes =
+    cond (fitsOf (q .cap) (q .leaves) (nextSlot q (t .free)))
+    (enteredOf q (enterOf (q .cap) (nextSlot q (t .free)) due (q .«next_seq») (treeOf (q .leaves) t)) (t .free) (writtenOf width (rowsOf t) (nextSlot q (t .free)) arrival route id bytes))
+    (after (record { queue = q; fits = false }) t)
 
--- the second copy of a packet: its first one may have left a next seq of 2^60, which 25 lets through
-unfoldable pub pushAgainOf : ℕ → ImpairQueue → Tables → Float → Float → ℕ → ℕ → List ℕ → After Pushed
-pushAgainOf width q t due arrival route id bytes = pushIf (leb (q .«next_seq») (2 ^ 60)) width q t due arrival route id bytes
+-- the answer after the last copy, of so many. 26 where its slot is out of range: state and tables are then as far as the copies before it came
+unfoldable pub toldOf : CopyEntered → ℕ → ℕ → Pushed
+toldOf e seq copies = cond (e .fits) (record { queue = e .queue; answer = push.Entered seq copies }) (notPushed (e .queue) refusedKeeping)
+
+abbrev pub told : ℕ → ℕ → AfterCopy → After Pushed
+told seq copies o = after (toldOf (o .gives) seq copies) (o .memory)
+
+-- whether a second copy enters behind the first: "A full queue refuses and uses no seq"
+abbrev pub againOf : Bool → CopyEntered → Bool
+againOf duplicated e = e .fits && duplicated && not (eqb (e .queue .held) (e .queue .cap))
+
+-- what follows the first copy: "id 1 if duplicated, same due"
+unfoldable pub secondOf : ℕ → ℕ → Float → Float → ℕ → Bool → List ℕ → AfterCopy → After Pushed
+secondOf width seq due arrival route duplicated bytes o =
+    cond (againOf duplicated (o .gives)) (told seq 2 (enterCopyOf width (o .gives .queue) (o .memory) due arrival route 1 bytes)) (told seq 1 o)
+
+unfoldable pub enterCopiesOf : ℕ → ImpairQueue → Tables → Float → Float → ℕ → ℕ → Bool → List ℕ → After Pushed
+enterCopiesOf width q t due arrival route id duplicated bytes =
+    secondOf width (q .«next_seq») due arrival route duplicated bytes (enterCopyOf width q t due arrival route id bytes)
+
+-- judged once, on the state handed in
+unfoldable pub pushOf : ℕ → ImpairQueue → Tables → Float → Float → ℕ → ℕ → Bool → List ℕ → After Pushed
+pushOf width q t due arrival route id duplicated bytes =
+    cond (eqb (pushRefusal width q (memoryOf width (q .cap) t) due arrival (length bytes)) 0)
+    (enterCopiesOf width q t due arrival route id duplicated bytes)
+    (after (notPushed q (pushRefusal width q (memoryOf width (q .cap) t) due arrival (length bytes))) t)
 
 -- ---- release
 

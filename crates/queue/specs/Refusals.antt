@@ -39,10 +39,10 @@ memoryOf width cap t =
 unfoldable pub inKeeping : ImpairQueue → Bool
 inKeeping q = leb (q .cap) maxCapacity && leb (q .leaves) (q .cap) && leb (q .opened) (q .leaves) && leb (q .held) (q .opened)
 
--- 23, 21 (the arrival), 22, 27, 25, 26, 28, given whether 25 lets the next seq through
-unfoldable pub pushRefusal : Bool → ℕ → ImpairQueue → Bool → Float → Float → ℕ → ℕ
-pushRefusal counter width q memory due arrival len =
-    refusalOf memory (isInstantOf arrival) (leb len width) (not (isNan due)) counter (inKeeping q) (not (eqb (q .held) (q .cap)))
+-- 23, 21 (the arrival), 22, 27, 25, 26, 28
+unfoldable pub pushRefusal : ℕ → ImpairQueue → Bool → Float → Float → ℕ → ℕ
+pushRefusal width q memory due arrival len =
+    refusalOf memory (isInstantOf arrival) (leb len width) (not (isNan due)) (isCounterOf (q .«next_seq»)) (inKeeping q) (not (eqb (q .held) (q .cap)))
 
 -- 23, 21, 25, 26
 unfoldable pub releaseRefusal : ImpairQueue → Bool → Float → ℕ

@@ -18,9 +18,9 @@ pub enum CreateAnswer {
     Refused(u32),
 }
 
-// The slot and seq of a copy that entered, or the number of the refusal.
+// The seq of the first copy that entered and how many entered, or the number of the refusal.
 pub enum PushAnswer {
-    Entered { slot: u32, seq: u64 },
+    Entered { seq: u64, copies: u32 },
     Refused(u32),
 }
 

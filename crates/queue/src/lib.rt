@@ -1,5 +1,4 @@
 // The queue of impair.rs: copies of packets wait in lent memory until they are due, the least (due, seq) first.
-mod again;
 mod answers;
 mod creation;
 mod due;

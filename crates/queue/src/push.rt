@@ -1,10 +1,10 @@
-// How a copy enters.
-ghost use mathlib.Core.Bool.{true};
+// How the copies of a packet enter.
 ghost use mathlib.Core.Path.{_≡_};
 ghost use Prim.Native.Nat.{_+_, _<_, _≤_, _^_};
+ghost use lib.ListN.{length};
 ghost use Rattle.queue.specs.Tables.{tables, after};
 ghost use Rattle.queue.specs.Refusals.{slotWidth, pushRefusal};
-ghost use Rattle.queue.specs.Calls.{nextSlot, oneMore, notPushed, pushIf, pushOf};
+ghost use Rattle.queue.specs.Calls.{nextSlot, oneMore, notPushed, toldOf, enterCopyOf, enterCopiesOf, pushOf};
 use crate::answers::PushAnswer;
 use crate::answers::Pushed;
 use crate::queue::ImpairQueue;
@@ -13,7 +13,16 @@ use crate::row;
 use crate::store::SLOT_WIDTH;
 use numbers::REFUSED_KEEPING;
 
-// A push that entered no copy.
+// The copy id of the second copy.
+const SECOND_COPY_ID: u32 = 1;
+
+// The state after a copy, and whether its slot was in range, so that it entered.
+pub(crate) struct CopyEntered {
+    pub queue: ImpairQueue,
+    pub fits: bool,
+}
+
+// A push that is refused.
 fn not_pushed(queue: ImpairQueue, number: u32) -> Pushed
     ensures { λ r. ⌜ r ≡ notPushed queue number ⌝ }
 {
@@ -23,17 +32,31 @@ fn not_pushed(queue: ImpairQueue, number: u32) -> Pushed
     }
 }
 
+// What a push answers after its last copy, of so many.
+fn told(last: CopyEntered, seq: u64, copies: u32) -> Pushed
+    ensures { λ r. ⌜ r ≡ toldOf last seq copies ⌝ }
+{
+    let queue = last.queue;
+    if !last.fits {
+        return not_pushed(queue, REFUSED_KEEPING);
+    }
+    Pushed {
+        queue,
+        answer: PushAnswer::Entered { seq, copies },
+    }
+}
+
 impl ImpairQueue {
-    // The refusal that meets a push of so many bytes, or 0, given whether 25 lets the next seq through and whether the lent memory has room.
-    fn push_refusal(self, counter: bool, memory: bool, due: f64, arrival: f64, length: usize) -> u32
-        ensures { λ r. ⌜ r ≡ pushRefusal counter slotWidth self memory due arrival length ⌝ }
+    // The refusal that meets a push of so many bytes, or 0, given whether the lent memory has room.
+    fn push_refusal(self, memory: bool, due: f64, arrival: f64, length: usize) -> u32
+        ensures { λ r. ⌜ r ≡ pushRefusal slotWidth self memory due arrival length ⌝ }
     {
         refusal::refusal(
             memory,
             numbers::is_instant(arrival),
             length <= SLOT_WIDTH as usize,
             due == due,
-            counter,
+            numbers::is_counter(self.next_seq),
             self.in_keeping(),
             self.held != self.cap,
         )
@@ -70,10 +93,9 @@ impl ImpairQueue {
         }
     }
 
-    // A copy enters with the next seq, or a refusal by 23, 21, 22, 27, 25, 26 or 28, given whether 25 lets the next seq through.
-    pub(crate) fn push_if(
+    // One copy enters its slot with the next seq, unless the slot is out of range.
+    fn enter_copy(
         self,
-        counter: bool,
         win: &mut [u32],
         free: &[u32],
         dues: &mut [f64],
@@ -88,28 +110,16 @@ impl ImpairQueue {
         route: u64,
         copy_id: u32,
         bytes: &[u8],
-    ) -> Pushed
-        requires { ⌜ (counter ≡ true → self .«next_seq» + 1 < 2 ^ 64) ⌝ }
-        ensures { λ r. ⌜ after r (tables (now (win .exit)) (now (free .entry)) (now (dues .exit)) (now (seqs .exit)) (now (arrivals .exit)) (now (routes .exit)) (now («copy_ids» .exit)) (now (lengths .exit)) (now (store .exit))) ≡ pushIf counter slotWidth self (tables (now (win .entry)) (now (free .entry)) (now (dues .entry)) (now (seqs .entry)) (now (arrivals .entry)) (now (routes .entry)) (now («copy_ids» .entry)) (now (lengths .entry)) (now (store .entry))) due arrival route «copy_id» (now (bytes .entry)) ⌝ }
+    ) -> CopyEntered
+        requires { ⌜ (self .held ≤ self .opened) × (self .held + 1 < 2 ^ 32) × (self .«next_seq» + 1 < 2 ^ 64) × (length (now bytes) < 2 ^ 32) ⌝ }
+        ensures { λ r. ⌜ after r (tables (now (win .exit)) (now (free .entry)) (now (dues .exit)) (now (seqs .exit)) (now (arrivals .exit)) (now (routes .exit)) (now («copy_ids» .exit)) (now (lengths .exit)) (now (store .exit))) ≡ enterCopyOf slotWidth self (tables (now (win .entry)) (now (free .entry)) (now (dues .entry)) (now (seqs .entry)) (now (arrivals .entry)) (now (routes .entry)) (now («copy_ids» .entry)) (now (lengths .entry)) (now (store .entry))) due arrival route «copy_id» (now (bytes .entry)) ⌝ }
     {
-        let shortest = refusal::shortest(
-            win.len(),
-            free.len(),
-            dues.len(),
-            seqs.len(),
-            arrivals.len(),
-            routes.len(),
-            copy_ids.len(),
-            lengths.len(),
-        );
-        let memory = refusal::has_room(self.cap, shortest, store.len());
-        let number = self.push_refusal(counter, memory, due, arrival, bytes.len());
-        if number != 0 {
-            return not_pushed(self, number);
-        }
         let slot = self.next_slot(free);
         if !tournament::fits(self.cap, self.leaves, slot) {
-            return not_pushed(self, REFUSED_KEEPING);
+            return CopyEntered {
+                queue: self,
+                fits: false,
+            };
         }
         let seq = self.next_seq;
         let leaves = tournament::enter(win, dues, seqs, self.cap, self.leaves, slot, due, seq);
@@ -125,13 +135,77 @@ impl ImpairQueue {
             copy_id,
             bytes,
         );
-        Pushed {
+        CopyEntered {
             queue: self.one_more(leaves),
-            answer: PushAnswer::Entered { slot, seq },
+            fits: true,
         }
     }
 
-    // A copy enters with the next seq, or a refusal by 23, 21, 22, 27, 25, 26 or 28.
+    // The first copy enters, then a second one if the packet is duplicated and the queue is not full.
+    fn enter_copies(
+        self,
+        win: &mut [u32],
+        free: &[u32],
+        dues: &mut [f64],
+        seqs: &mut [u64],
+        arrivals: &mut [f64],
+        routes: &mut [u64],
+        copy_ids: &mut [u32],
+        lengths: &mut [u32],
+        store: &mut [u8],
+        due: f64,
+        arrival: f64,
+        route: u64,
+        copy_id: u32,
+        duplicated: bool,
+        bytes: &[u8],
+    ) -> Pushed
+        requires { ⌜ (self .held ≤ self .opened) × (self .held + 2 < 2 ^ 32) × (self .«next_seq» + 2 < 2 ^ 64) × (length (now bytes) < 2 ^ 32) ⌝ }
+        ensures { λ r. ⌜ after r (tables (now (win .exit)) (now (free .entry)) (now (dues .exit)) (now (seqs .exit)) (now (arrivals .exit)) (now (routes .exit)) (now («copy_ids» .exit)) (now (lengths .exit)) (now (store .exit))) ≡ enterCopiesOf slotWidth self (tables (now (win .entry)) (now (free .entry)) (now (dues .entry)) (now (seqs .entry)) (now (arrivals .entry)) (now (routes .entry)) (now («copy_ids» .entry)) (now (lengths .entry)) (now (store .entry))) due arrival route «copy_id» duplicated (now (bytes .entry)) ⌝ }
+    {
+        let seq = self.next_seq;
+        let first = self.enter_copy(
+            win,
+            free,
+            dues,
+            seqs,
+            arrivals,
+            routes,
+            copy_ids,
+            lengths,
+            store,
+            due,
+            arrival,
+            route,
+            copy_id,
+            bytes,
+        );
+        let queue = first.queue;
+        let again = first.fits & duplicated & (queue.held != queue.cap);
+        if !again {
+            return told(first, seq, 1);
+        }
+        let second = queue.enter_copy(
+            win,
+            free,
+            dues,
+            seqs,
+            arrivals,
+            routes,
+            copy_ids,
+            lengths,
+            store,
+            due,
+            arrival,
+            route,
+            SECOND_COPY_ID,
+            bytes,
+        );
+        told(second, seq, 2)
+    }
+
+    // The copies of a packet enter: the first with the next seq and the copy id; if it is duplicated, a second with the seq after it and copy id 1, unless
+    // the queue is full by then. Or a refusal by 23, 21, 22, 27, 25, 26 or 28, judged once, on the state handed in.
     pub fn push(
         self,
         win: &mut [u32],
@@ -147,13 +221,27 @@ impl ImpairQueue {
         arrival: f64,
         route: u64,
         copy_id: u32,
+        duplicated: bool,
         bytes: &[u8],
     ) -> Pushed
-        ensures { λ r. ⌜ after r (tables (now (win .exit)) (now (free .entry)) (now (dues .exit)) (now (seqs .exit)) (now (arrivals .exit)) (now (routes .exit)) (now («copy_ids» .exit)) (now (lengths .exit)) (now (store .exit))) ≡ pushOf slotWidth self (tables (now (win .entry)) (now (free .entry)) (now (dues .entry)) (now (seqs .entry)) (now (arrivals .entry)) (now (routes .entry)) (now («copy_ids» .entry)) (now (lengths .entry)) (now (store .entry))) due arrival route «copy_id» (now (bytes .entry)) ⌝ }
+        ensures { λ r. ⌜ after r (tables (now (win .exit)) (now (free .entry)) (now (dues .exit)) (now (seqs .exit)) (now (arrivals .exit)) (now (routes .exit)) (now («copy_ids» .exit)) (now (lengths .exit)) (now (store .exit))) ≡ pushOf slotWidth self (tables (now (win .entry)) (now (free .entry)) (now (dues .entry)) (now (seqs .entry)) (now (arrivals .entry)) (now (routes .entry)) (now («copy_ids» .entry)) (now (lengths .entry)) (now (store .entry))) due arrival route «copy_id» duplicated (now (bytes .entry)) ⌝ }
     {
-        let counter = numbers::is_counter(self.next_seq);
-        self.push_if(
-            counter,
+        let shortest = refusal::shortest(
+            win.len(),
+            free.len(),
+            dues.len(),
+            seqs.len(),
+            arrivals.len(),
+            routes.len(),
+            copy_ids.len(),
+            lengths.len(),
+        );
+        let memory = refusal::has_room(self.cap, shortest, store.len());
+        let number = self.push_refusal(memory, due, arrival, bytes.len());
+        if number != 0 {
+            return not_pushed(self, number);
+        }
+        self.enter_copies(
             win,
             free,
             dues,
@@ -167,6 +255,7 @@ impl ImpairQueue {
             arrival,
             route,
             copy_id,
+            duplicated,
             bytes,
         )
     }

@@ -1,8 +1,8 @@
 -- The plain queue: a list of the copies that are held, in the order in which they entered, beside the capacity and the next seq. It knows no slots, no
 -- tables and no tree. Laws shows that the calls of crates/queue answer as it does.
-use mathlib.Core.Bool.{Bool, cond, not}
+use mathlib.Core.Bool.{Bool, cond, not, _&&_}
 use mathlib.Core.List.{List, [], _∷_, _++_}
-use Prim.Native.Nat.{ℕ, _+_, _^_}
+use Prim.Native.Nat.{ℕ, _+_}
 use lib.Dec.{leb, eqb}
 use lib.Ieee.{Float, isNan}
 use lib.ListN.{length}
@@ -21,15 +21,15 @@ pub record Plain : Type 0 where
 abbrev pub plain : ℕ → List Copy → ℕ → Plain
 plain c h n = record { cap = c; held = h; nextSeq = n }
 
--- a push has a due, an arrival, a route, a copy id and bytes; a release has an instant
+-- a push has a due, an arrival, a route, a copy id, whether the packet is duplicated, and bytes; a release has an instant
 pub data Call : Type 0 where
-  push : Float → Float → ℕ → ℕ → List ℕ → Call
+  push : Float → Float → ℕ → ℕ → Bool → List ℕ → Call
   release : Float → Call
   drain : Call
 
--- a copy entered with that seq, a copy left, none is due, so many left, or the number of the refusal
+-- copies entered (the seq of the first, and how many), a copy left, none is due, so many left, or the number of the refusal
 pub data Reply : Type 0 where
-  entered : ℕ → Reply
+  entered : ℕ → ℕ → Reply
   released : Copy → Reply
   noneDue : Reply
   drained : ℕ → Reply
@@ -42,22 +42,27 @@ pub record Step : Type 0 where
 abbrev pub stepTo : Reply → Plain → Step
 stepTo r p = record { reply = r; then = p }
 
--- 21 (the arrival), 22, 27, 25, 28, given whether 25 lets the next seq through; else the copy enters at the end with the next seq
-unfoldable pub pushPlainIf : Bool → ℕ → Plain → Float → Float → ℕ → ℕ → List ℕ → Step
-pushPlainIf counter width p due arrival route id bytes =
+abbrev pub isFull : Plain → Bool
+isFull p = eqb (length (p .held)) (p .cap)
+
+-- a copy more, at the end and with the next seq
+abbrev pub withCopy : Plain → Float → Float → ℕ → ℕ → List ℕ → Plain
+withCopy p due arrival route id bytes = plain (p .cap) (p .held ++ (copy due (p .nextSeq) arrival route id (length bytes) bytes ∷ [])) (p .nextSeq + 1)
+
+-- what follows a first copy with that seq: a second one, "id 1 if duplicated, same due", unless the queue is full by then
+unfoldable pub secondPlain : ℕ → Plain → Float → Float → ℕ → Bool → List ℕ → Step
+secondPlain seq p due arrival route duplicated bytes =
+    cond (duplicated && not (isFull p)) (stepTo (entered seq 2) (withCopy p due arrival route 1 bytes)) (stepTo (entered seq 1) p)
+
+-- 21 (the arrival), 22, 27, 25, 28, judged once; else the copies enter
+unfoldable pub pushPlain : ℕ → Plain → Float → Float → ℕ → ℕ → Bool → List ℕ → Step
+pushPlain width p due arrival route id duplicated bytes =
     cond (not (isInstantOf arrival)) (stepTo (refused refusedInstant) p)
     (cond (not (leb (length bytes) width)) (stepTo (refused refusedLength) p)
     (cond (isNan due) (stepTo (refused refusedDue) p)
-    (cond (not counter) (stepTo (refused refusedCounter) p)
-    (cond (eqb (length (p .held)) (p .cap)) (stepTo (refused refusedFull) p)
-    (stepTo (entered (p .nextSeq)) (plain (p .cap) (p .held ++ (copy due (p .nextSeq) arrival route id (length bytes) bytes ∷ [])) (p .nextSeq + 1)))))))
-
-unfoldable pub pushPlain : ℕ → Plain → Float → Float → ℕ → ℕ → List ℕ → Step
-pushPlain width p due arrival route id bytes = pushPlainIf (isCounterOf (p .nextSeq)) width p due arrival route id bytes
-
--- the second copy of a packet: 25 where the next seq is above 2^60
-unfoldable pub pushAgainPlain : ℕ → Plain → Float → Float → ℕ → ℕ → List ℕ → Step
-pushAgainPlain width p due arrival route id bytes = pushPlainIf (leb (p .nextSeq) (2 ^ 60)) width p due arrival route id bytes
+    (cond (not (isCounterOf (p .nextSeq))) (stepTo (refused refusedCounter) p)
+    (cond (isFull p) (stepTo (refused refusedFull) p)
+    (secondPlain (p .nextSeq) (withCopy p due arrival route id bytes) due arrival route duplicated bytes)))))
 
 -- the copy that leaves is handed out, and all but it are left
 unfoldable pub handOut : Plain → Leaving → Step
@@ -86,7 +91,7 @@ unfoldable pub nextDuePlain : Plain → DueAnswer
 nextDuePlain p = cond (not (isCounterOf (p .nextSeq))) (due.Refused refusedCounter) (leastDue (p .held))
 
 unfoldable pub step : ℕ → Plain → Call → Step
-step width p (push d a r c b) = pushPlain width p d a r c b
+step width p (push d a r c dup b) = pushPlain width p d a r c dup b
 step width p (release now) = releasePlain p now
 step width p drain = drainPlain p
 

@@ -10,11 +10,15 @@ use Rattle.numbers.specs.Limits.{isCounterOf}
 use Rattle.numbers.specs.Whole.{whole}
 use Rattle.held.specs.Order.{beforeOf}
 use Rattle.held.specs.Copies.{copy, least, without, dueBy, leastIn, leaving}
-use Rattle.queue_laws.specs.Held.{Call, push, release, drain, Reply, entered, released, noneDue, drained, refused, plain, pushPlainIf, pushPlain, handOut, releasePlain, drainPlain, step, run}
+use Rattle.queue_laws.specs.Held.{Call, push, release, drain, Reply, entered, released, noneDue, drained, refused, plain, secondPlain, pushPlain, handOut, releasePlain, drainPlain, step, run}
 
 -- a copy without bytes, due at that instant, which came at 0
 abbrev at : Float → Call
-at due = push due (whole 0) 7 0 []
+at due = push due (whole 0) 7 0 false []
+
+-- the same, of a packet that is duplicated
+abbrev twice : Float → Call
+twice due = push due (whole 0) 7 0 true []
 
 abbrev out : Float → ℕ → Reply
 out due seq = released (copy due seq (whole 0) 7 0 0 [])
@@ -24,14 +28,16 @@ replies cap cs = run 2048 (plain cap [] 0) cs
 
 pub record QueueLines : Type 0 where
   -- a full queue refuses and uses no seq, and what a copy left is used again
-  pub full : replies 1 (at (whole 5) ∷ at (whole 6) ∷ release (whole 5) ∷ at (whole 6) ∷ []) ≡ (entered 0 ∷ refused 28 ∷ out (whole 5) 0 ∷ entered 1 ∷ [])
+  pub full : replies 1 (at (whole 5) ∷ at (whole 6) ∷ release (whole 5) ∷ at (whole 6) ∷ []) ≡ (entered 0 1 ∷ refused 28 ∷ out (whole 5) 0 ∷ entered 1 1 ∷ [])
+  -- the copies of a packet have a seq each; where one has room, one enters
+  pub both : replies 3 (twice (whole 5) ∷ twice (whole 6) ∷ twice (whole 7) ∷ []) ≡ (entered 0 2 ∷ entered 2 1 ∷ refused 28 ∷ [])
   -- −0 and 0 tie, so the one that came first leaves first
-  pub tie : replies 2 (at (whole 0) ∷ at (fin true 0 (pos 0)) ∷ release (whole 0) ∷ release (whole 0) ∷ []) ≡ (entered 0 ∷ entered 1 ∷ out (whole 0) 0 ∷ out (fin true 0 (pos 0)) 1 ∷ [])
+  pub tie : replies 2 (at (whole 0) ∷ at (fin true 0 (pos 0)) ∷ release (whole 0) ∷ release (whole 0) ∷ []) ≡ (entered 0 1 ∷ entered 1 1 ∷ out (whole 0) 0 ∷ out (fin true 0 (pos 0)) 1 ∷ [])
   -- a later copy that is due earlier leaves first, at its due and not before
-  pub due : replies 2 (at (whole 9) ∷ at (whole 8) ∷ release (whole 7) ∷ release (whole 8) ∷ release (whole 8) ∷ []) ≡ (entered 0 ∷ entered 1 ∷ noneDue ∷ out (whole 8) 1 ∷ noneDue ∷ [])
+  pub due : replies 2 (at (whole 9) ∷ at (whole 8) ∷ release (whole 7) ∷ release (whole 8) ∷ release (whole 8) ∷ []) ≡ (entered 0 1 ∷ entered 1 1 ∷ noneDue ∷ out (whole 8) 1 ∷ noneDue ∷ [])
   -- an infinite due waits until all are torn down
-  pub infinite : replies 2 (at (inf false) ∷ at (whole 1) ∷ release (whole 9007199254740992) ∷ release (whole 9007199254740992) ∷ drain ∷ []) ≡ (entered 0 ∷ entered 1 ∷ out (whole 1) 1 ∷ noneDue ∷ drained 1 ∷ [])
+  pub infinite : replies 2 (at (inf false) ∷ at (whole 1) ∷ release (whole 9007199254740992) ∷ release (whole 9007199254740992) ∷ drain ∷ []) ≡ (entered 0 1 ∷ entered 1 1 ∷ out (whole 1) 1 ∷ noneDue ∷ drained 1 ∷ [])
 
 pub queue-lines : QueueLines
-unfolding run step pushPlain pushPlainIf releasePlain handOut drainPlain leaving leastIn dueBy least without beforeOf isInstantOf isCounterOf lt le isNan ofInt
-queue-lines = record { full = refl; tie = refl; due = refl; infinite = refl }
+unfolding run step pushPlain secondPlain releasePlain handOut drainPlain leaving leastIn dueBy least without beforeOf isInstantOf isCounterOf lt le isNan ofInt
+queue-lines = record { full = refl; both = refl; tie = refl; due = refl; infinite = refl }

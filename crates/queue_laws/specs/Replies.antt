@@ -18,7 +18,7 @@ use Rattle.queue.specs.declared.answers.DrainAnswer.the-variants as drainAnswer
 use Rattle.queue_laws.specs.Held.{Call, push, release, drain, Reply, entered, released, noneDue, drained, refused}
 
 abbrev pub saidOfPush : PushAnswer → Reply
-saidOfPush (pushAnswer.Entered slot seq) = entered seq
+saidOfPush (pushAnswer.Entered seq copies) = entered seq copies
 saidOfPush (pushAnswer.Refused k) = refused k
 
 -- the copy that left, with the bytes of its slot in the store
@@ -55,7 +55,7 @@ saidByDrain t o = said (saidOfDrain (o .answer)) (o .queue) t
 
 -- a call of crates/queue
 unfoldable pub answerTo : ℕ → ImpairQueue → Tables → Call → Said
-answerTo width q t (push d a r c b) = saidByPush (pushOf width q t d a r c b)
+answerTo width q t (push d a r c dup b) = saidByPush (pushOf width q t d a r c dup b)
 answerTo width q t (release now) = saidByRelease width (releaseOf width q t now)
 answerTo width q t drain = saidByDrain t (drainOf q)
 

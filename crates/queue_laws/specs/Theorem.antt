@@ -2,6 +2,7 @@
 -- call answered and each table left as the contract of `push`, `release` or `drain` says, and each released copy's bytes read as that of `payload` says, the
 -- replies are the plain queue's.
 use mathlib.Core.Path.{_≡_, refl, sym, ap, _∙_}
+use mathlib.Core.Bool.{Bool, true}
 use mathlib.Core.List.{List, [], _∷_}
 use Prim.Native.Nat.{ℕ}
 use lib.Ieee.{Float}
@@ -12,7 +13,7 @@ use borrow.Fn.Kinds as Kinds'
 use denote.Triple.Clauses
 use Rattle.held.specs.Copies.{copy}
 use Rattle.queue.specs.Tables.{Tables, After, after}
-use Rattle.queue.specs.Refusals.{slotWidth}
+use Rattle.queue.specs.Refusals.{slotWidth, memoryOf}
 use Rattle.queue.specs.Calls.{createOf, pushOf, releaseOf, drainOf, payloadOf}
 use Rattle.queue.specs.declared.queue.ImpairQueue.{ImpairQueue}
 use Rattle.queue.specs.declared.answers.Created.{Created}
@@ -41,9 +42,7 @@ use Rattle.queue.proofs.payload.Kinds as payload-kinds
 use Rattle.queue_laws.specs.Held.{Call, push as pushCall, release as releaseCall, drain as drainCall, Reply, released, noneDue, refused, plain, run}
 use Rattle.queue_laws.specs.Replies.{saidOfPush, saidOfRelease, saidOfDrain, saidByPush, saidByRelease, saidByDrain, answerTo, answersTo}
 use Rattle.queue_laws.specs.Lent.{lentTables, leftByEntry, leftByExit}
-use Rattle.queue_laws.specs.Laws.Runs.{created-agrees}
-
--- ---- the tables that a call begins with, and those that it leaves: what is lent to be read stays
+use Rattle.queue_laws.specs.Laws.Runs.{created-agrees, refused-creation-agrees}
 
 -- ---- calls: `Learnt` is what the function's contract ensures of its arguments, its result and the tables at exit
 
@@ -55,16 +54,17 @@ pub data Creates (cap : ℕ) (t : Tables) : Created → Type 1 where
       → Creates cap t r
 
 -- a call of `push` on the state q and the tables t, with what is pushed, returned r and left tables
-pub data Pushes (q : ImpairQueue) (t : Tables) (due arrival : Float) (route id : ℕ) (bytes : List ℕ) : Pushed → Tables → Type 1 where
+pub data Pushes (q : ImpairQueue) (t : Tables) (due arrival : Float) (route id : ℕ) (duplicated : Bool) (bytes : List ℕ) : Pushed → Tables → Type 1 where
   called : (κs : Lifetimes.Lfts 10) (a : World.ArgsD push-fn.signature κs) (r : World.ResD push-fn.signature κs) (s : Clauses.AtExit (Kinds'.endedOf 10 push-kinds.ps push-kinds.r) κs)
       → a .0 ≡ q → lentTables (a .1) ≡ t
       → a .1 .1 .1 .1 .1 .1 .1 .1 .1 .1 .0 ≡ due
       → a .1 .1 .1 .1 .1 .1 .1 .1 .1 .1 .1 .0 ≡ arrival
       → a .1 .1 .1 .1 .1 .1 .1 .1 .1 .1 .1 .1 .0 ≡ route
       → a .1 .1 .1 .1 .1 .1 .1 .1 .1 .1 .1 .1 .1 .0 ≡ id
-      → now (a .1 .1 .1 .1 .1 .1 .1 .1 .1 .1 .1 .1 .1 .1 .0) ≡ bytes
+      → a .1 .1 .1 .1 .1 .1 .1 .1 .1 .1 .1 .1 .1 .1 .0 ≡ duplicated
+      → now (a .1 .1 .1 .1 .1 .1 .1 .1 .1 .1 .1 .1 .1 .1 .1 .0) ≡ bytes
       → push.Learnt κs a r s
-      → Pushes q t due arrival route id bytes r (leftByEntry (lentTables (a .1)) (lentTables (s .1)))
+      → Pushes q t due arrival route id duplicated bytes r (leftByEntry (lentTables (a .1)) (lentTables (s .1)))
 
 -- a call of `release` at an instant
 pub data Releases (q : ImpairQueue) (t : Tables) (instant : Float) : Released → Tables → Type 1 where
@@ -98,8 +98,8 @@ pub data Says (store : List ℕ) : ReleaseAnswer → Reply → Type 1 where
 creates-is : {cap : ℕ} {t : Tables} {r : Created} → Creates cap t r → r ≡ createOf slotWidth cap t
 creates-is (Creates.called κs a r s ec et h) = h ∙ (λ i. createOf slotWidth (ec i) (et i))
 
-pushes-is : {q : ImpairQueue} {t : Tables} {due arrival : Float} {route id : ℕ} {bytes : List ℕ} {r : Pushed} {t′ : Tables} → Pushes q t due arrival route id bytes r t′ → after r t′ ≡ pushOf slotWidth q t due arrival route id bytes
-pushes-is (Pushes.called κs a r s eq et ed ea er ei eb h) = h ∙ (λ i. pushOf slotWidth (eq i) (et i) (ed i) (ea i) (er i) (ei i) (eb i))
+pushes-is : {q : ImpairQueue} {t : Tables} {due arrival : Float} {route id : ℕ} {duplicated : Bool} {bytes : List ℕ} {r : Pushed} {t′ : Tables} → Pushes q t due arrival route id duplicated bytes r t′ → after r t′ ≡ pushOf slotWidth q t due arrival route id duplicated bytes
+pushes-is (Pushes.called κs a r s eq et ed ea er ei ep eb h) = h ∙ (λ i. pushOf slotWidth (eq i) (et i) (ed i) (ea i) (er i) (ei i) (ep i) (eb i))
 
 releases-is : {q : ImpairQueue} {t : Tables} {instant : Float} {r : Released} {t′ : Tables} → Releases q t instant r t′ → after r t′ ≡ releaseOf slotWidth q t instant
 releases-is (Releases.called κs a r s eq et ei h) = h ∙ (λ i. releaseOf slotWidth (eq i) (et i) (ei i))
@@ -118,9 +118,9 @@ drains-is (Drains.called κs a r s eq h) = h ∙ (λ i. drainOf (eq i))
 -- a run of the functions over a list of calls, with its replies: each call begins with what the last one left
 pub data Ran : ImpairQueue → Tables → List Call → List Reply → Type 1 where
   done : {q : ImpairQueue} {t : Tables} → Ran q t [] []
-  pushes : {q : ImpairQueue} {t t′ : Tables} {due arrival : Float} {route id : ℕ} {bytes : List ℕ} {r : Pushed} {cs : List Call} {rs : List Reply}
-      → Pushes q t due arrival route id bytes r t′ → Ran (r .queue) t′ cs rs
-      → Ran q t (pushCall due arrival route id bytes ∷ cs) (saidOfPush (r .answer) ∷ rs)
+  pushes : {q : ImpairQueue} {t t′ : Tables} {due arrival : Float} {route id : ℕ} {duplicated : Bool} {bytes : List ℕ} {r : Pushed} {cs : List Call} {rs : List Reply}
+      → Pushes q t due arrival route id duplicated bytes r t′ → Ran (r .queue) t′ cs rs
+      → Ran q t (pushCall due arrival route id duplicated bytes ∷ cs) (saidOfPush (r .answer) ∷ rs)
   releases : {q : ImpairQueue} {t t′ : Tables} {instant : Float} {r : Released} {reply : Reply} {cs : List Call} {rs : List Reply}
       → Releases q t instant r t′ → Says (t′ .store) (r .answer) reply → Ran (r .queue) t′ cs rs
       → Ran q t (releaseCall instant ∷ cs) (reply ∷ rs)
@@ -147,3 +147,11 @@ theorem {cap} {t} {r} c made cs rs ran =
     ran-is ran
     ∙ ap (λ (x : Created). answersTo slotWidth (x .queue) t cs) (creates-is c)
     ∙ created-agrees slotWidth cap t (ap (λ (x : Created). x .answer) (sym (creates-is c)) ∙ made) cs
+
+-- and every run on the queue of a refused creation as the plain queue of capacity 1, over any memory that is long enough for it
+pub refused-theorem : {cap : ℕ} {t : Tables} {r : Created} {n : ℕ} → Creates cap t r → r .answer ≡ created.Refused n → (later : Tables) → memoryOf slotWidth 1 later ≡ true
+    → (cs : List Call) (rs : List Reply) → Ran (r .queue) later cs rs → rs ≡ run slotWidth (plain 1 [] 0) cs
+refused-theorem {cap} {t} {r} {n} c not-made later long cs rs ran =
+    ran-is ran
+    ∙ ap (λ (x : Created). answersTo slotWidth (x .queue) later cs) (creates-is c)
+    ∙ refused-creation-agrees slotWidth cap t later n (ap (λ (x : Created). x .answer) (sym (creates-is c)) ∙ not-made) long cs

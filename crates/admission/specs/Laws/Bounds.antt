@@ -1,28 +1,29 @@
 -- What each count can be, whatever the state and the memory were: at most two copies enter or overflow, and at most one reset tears at most a queue's capacity.
 use mathlib.Core.Path.{_≡_, refl}
-use mathlib.Core.Bool.{Bool, true, false, _&&_}
+use mathlib.Core.Bool.{Bool, true, false, not, _&&_}
 use mathlib.Core.List.{List}
-use Prim.Native.Nat.{ℕ, _+_, _≤_}
+use Prim.Native.Nat.{ℕ, _≤_}
 use native.Mathlib.Omega.{arith}
-use lib.Dec.{leb, eqb, eqb→eq}
+use lib.Dec.{T, leb, eqb, eqb→eq}
 use lib.Ieee.{Float}
+use lib.ListN.{length}
 use borrow.Author.Tests.{leb-true}
 use Rattle.numbers.specs.Laws.Both.{both-true}
 use Rattle.numbers.specs.Laws.NotNan.{cond-when, cond-has}
 use Rattle.numbers.specs.Limits.{maxCapacity, isCounterOf}
 use Rattle.numbers.specs.Refusals.{refusedFull}
-use Rattle.queue.specs.Calls.{pushOf, pushAgainOf, drainOf}
-use Rattle.queue.specs.Refusals.{refusalOf, inKeeping, stateRefusal}
+use Rattle.queue.specs.Calls.{AfterCopy, enterCopyOf, toldOf, told, againOf, secondOf, enterCopiesOf, pushOf, drainOf}
+use Rattle.queue.specs.Refusals.{refusalOf, inKeeping, memoryOf, pushRefusal, stateRefusal}
 use Rattle.queue.specs.Tables.{Tables, After}
 use Rattle.queue.specs.declared.queue.ImpairQueue.{ImpairQueue}
 use Rattle.queue.specs.declared.answers.Drained.{Drained}
+use Rattle.queue.specs.declared.answers.Pushed.{Pushed}
 use Rattle.queue.specs.declared.answers.PushAnswer.{PushAnswer}
 use Rattle.queue.specs.declared.answers.PushAnswer.the-variants as push
 use Rattle.steps.specs.declared.decision.Decision.{Decision}
 use Rattle.steps.specs.declared.decision.Decision.the-variants.{DropRandom, DropGe, DropMtu, DropBlackout, DropKillHold, Enqueue, KillRst}
-use Rattle.admission.specs.Admitted.{untouched, talliedBy, tornBy, tornOf}
-use Rattle.admission.specs.Copies.{firstOf, secondOf, copiesOf}
-use Rattle.admission.specs.Follow.{followOf}
+use Rattle.admission.specs.Admitted.{untouched, askedOf, copiesIn, talliedBy, tornBy, tornOf}
+use Rattle.admission.specs.Follow.{copiesOf, followOf}
 use Rattle.admission.specs.declared.admitted.Admitted.{Admitted}
 
 pub record Bounds (a : Admitted) : Type 0 where
@@ -33,32 +34,43 @@ pub record Bounds (a : Admitted) : Type 0 where
 
 -- ---- the copies of a packet
 
--- at most so many copies entered, at most so many overflowed, and none was torn
-pub record Within (n : ℕ) (a : Admitted) : Type 0 where
-  pub entered-within : a .entered ≤ n
-  pub overflowed-within : a .overflowed ≤ n
-  pub none-torn : a .torn ≡ 0
-  pub no-reset : a .resets ≡ 0
+-- no more copies enter than a packet has
+abbrev Within : Bool → Pushed → Type 0
+Within duplicated p = copiesIn (p .answer) ≤ askedOf duplicated
 
-tallied-within : (p : PushAnswer) (q : ImpairQueue) (i o n : ℕ) → i ≤ n → o ≤ n → Within (n + 1) (talliedBy p q i o)
-unfolding talliedBy
-tallied-within (push.Entered slot seq) q i o n hi ho = omega arith
-tallied-within (push.Refused k) q i o n hi ho = cond-has (Within (n + 1)) (eqb k refusedFull) (omega arith) (omega arith)
+told-within : (duplicated : Bool) (seq copies : ℕ) (o : AfterCopy) → copies ≤ askedOf duplicated → Within duplicated (told seq copies o .gives)
+unfolding toldOf copiesIn
+told-within duplicated seq copies o h = cond-has (Within duplicated) (o .gives .fits) h (omega arith)
 
-pub first-within : (width : ℕ) (q : ImpairQueue) (t : Tables) (due now : Float) (route : ℕ) (bytes : List ℕ) → Within 1 (firstOf width q t due now route bytes .gives)
-unfolding firstOf
-first-within width q t due now route bytes = tallied-within (pushOf width q t due now route 0 bytes .gives .answer) _ 0 0 0 (omega arith) (omega arith)
+one-asked : (duplicated : Bool) → 1 ≤ askedOf duplicated
+one-asked duplicated = cond-has (λ (n : ℕ). 1 ≤ n) duplicated (omega arith) (omega arith)
 
-second-within : (width : ℕ) (a : Admitted) (t : Tables) (duplicated : Bool) (due now : Float) (route : ℕ) (bytes : List ℕ) → Within 1 a → Within 2 (secondOf width a t duplicated due now route bytes .gives)
-unfolding secondOf
-second-within width a t duplicated due now route bytes h =
-    cond-has (λ (x : After Admitted). Within 2 (x .gives)) (duplicated && eqb (a .number) 0)
-    (tallied-within (pushAgainOf width (a .queue) t due now route 1 bytes .gives .answer) _ (a .entered) (a .overflowed) 1 (h .entered-within) (h .overflowed-within))
+two-asked : (fits duplicated room : Bool) → T (fits && duplicated && room) → 2 ≤ askedOf duplicated
+two-asked true true room h = omega arith
+two-asked true false room h = absurd h
+two-asked false duplicated room h = absurd h
+
+pub push-within : (width : ℕ) (q : ImpairQueue) (t : Tables) (due arrival : Float) (route id : ℕ) (duplicated : Bool) (bytes : List ℕ)
+    → Within duplicated (pushOf width q t due arrival route id duplicated bytes .gives)
+unfolding pushOf enterCopiesOf secondOf copiesIn
+push-within width q t due arrival route id duplicated bytes =
+    let one = enterCopyOf width q t due arrival route id bytes in
+    cond-has (λ (o : After Pushed). Within duplicated (o .gives)) (eqb (pushRefusal width q (memoryOf width (q .cap) t) due arrival (length bytes)) 0)
+    (cond-when (λ (o : After Pushed). Within duplicated (o .gives)) (againOf duplicated (one .gives))
+    (λ h. told-within duplicated (q .«next_seq») 2 (enterCopyOf width (one .gives .queue) (one .memory) due arrival route 1 bytes) (two-asked (one .gives .fits) duplicated (not (eqb (one .gives .queue .held) (one .gives .queue .cap))) h))
+    (told-within duplicated (q .«next_seq») 1 one (one-asked duplicated)))
     (omega arith)
 
-copies-within : (width : ℕ) (q : ImpairQueue) (t : Tables) (duplicated : Bool) (due now : Float) (route : ℕ) (bytes : List ℕ) → Within 2 (copiesOf width q t duplicated due now route bytes .gives)
+tallied-bounds : (p : PushAnswer) (q : ImpairQueue) (asked : ℕ) → copiesIn p ≤ asked → asked ≤ 2 → Bounds (talliedBy p q asked)
+unfolding talliedBy copiesIn
+tallied-bounds (push.Entered seq copies) q asked h small = omega (arith, h, small)
+tallied-bounds (push.Refused k) q asked h small = cond-has Bounds (eqb k refusedFull) (omega (arith, small)) (omega arith)
+
+copies-bounds : (width : ℕ) (q : ImpairQueue) (t : Tables) (duplicated : Bool) (due now : Float) (route : ℕ) (bytes : List ℕ) → Bounds (copiesOf width q t duplicated due now route bytes .gives)
 unfolding copiesOf
-copies-within width q t duplicated due now route bytes = second-within width _ _ duplicated due now route bytes (first-within width q t due now route bytes)
+copies-bounds width q t duplicated due now route bytes =
+    tallied-bounds (pushOf width q t due now route 0 duplicated bytes .gives .answer) _ (askedOf duplicated)
+    (push-within width q t due now route 0 duplicated bytes) (cond-has (λ (n : ℕ). n ≤ 2) duplicated (omega arith) (omega arith))
 
 -- ---- a reset
 
@@ -102,5 +114,5 @@ follow-bounds width q t DropGe now route bytes = untouched-bounds q
 follow-bounds width q t DropMtu now route bytes = untouched-bounds q
 follow-bounds width q t DropBlackout now route bytes = untouched-bounds q
 follow-bounds width q t DropKillHold now route bytes = untouched-bounds q
-follow-bounds width q t (Enqueue due duplicated) now route bytes = omega (arith, copies-within width q t duplicated due now route bytes)
+follow-bounds width q t (Enqueue due duplicated) now route bytes = copies-bounds width q t duplicated due now route bytes
 follow-bounds width q t KillRst now route bytes = torn-bounds q

@@ -1,6 +1,6 @@
 -- What a call is lent to be read stays as it was: an arrival reads `free`, and a release what lies beside the keys.
 use mathlib.Core.Path.{_≡_, refl, _∙_}
-use mathlib.Core.Bool.{Bool, true, _&&_}
+use mathlib.Core.Bool.{Bool, true}
 use mathlib.Core.List.{List}
 use Prim.Native.Nat.{ℕ}
 use lib.Dec.{eqb, leb}
@@ -12,15 +12,13 @@ use Rattle.steps.specs.declared.decision.Decision.{Decision}
 use Rattle.steps.specs.declared.decision.Decision.the-variants.{DropRandom, DropGe, DropMtu, DropBlackout, DropKillHold, Enqueue, KillRst}
 use Rattle.engine.specs.Decide.{decidePassedOf}
 use Rattle.tournament.specs.Calls.{fitsOf, leastOf}
-use Rattle.queue.specs.Calls.{nextSlot, enteredOf, pushIf, pushOf, pushAgainOf, leftOf, dueOf, releaseOf as queueReleaseOf}
+use Rattle.queue.specs.Calls.{nextSlot, AfterCopy, enteredOf, enterCopyOf, againOf, secondOf, enterCopiesOf, pushOf, leftOf, dueOf, releaseOf as queueReleaseOf}
 use Rattle.queue.specs.Refusals.{slotWidth, memoryOf, pushRefusal, releaseRefusal as queueRefusal}
 use Rattle.queue.specs.Tables.{Tables, After, rowsOf}
 use Rattle.queue.specs.declared.answers.Pushed.{Pushed}
 use Rattle.queue.specs.declared.answers.Released.{Released as Left}
 use Rattle.queue.specs.declared.queue.ImpairQueue.{ImpairQueue}
-use Rattle.admission.specs.Copies.{firstOf, secondOf, copiesOf}
-use Rattle.admission.specs.Follow.{followOf}
-use Rattle.admission.specs.declared.admitted.Admitted.{Admitted}
+use Rattle.admission.specs.Follow.{copiesOf, followOf}
 use Rattle.device.specs.Arrive.{arriveRefusal, arriveOf}
 use Rattle.device.specs.Release.{releaseRefusal, releaseOf}
 use Rattle.device.specs.declared.answers.Arrived.{Arrived}
@@ -29,26 +27,27 @@ use Rattle.device.specs.declared.device.Device.{Device}
 
 -- ---- an arrival
 
-push-free : (counter : Bool) (q : ImpairQueue) (t : Tables) (due now : Float) (route id : ℕ) (bytes : List ℕ) → pushIf counter slotWidth q t due now route id bytes .memory .free ≡ t .free
-unfolding pushIf enteredOf
-push-free counter q t due now route id bytes =
-    cond-has (λ (o : After Pushed). o .memory .free ≡ t .free) (eqb (pushRefusal counter slotWidth q (memoryOf slotWidth (q .cap) t) due now (length bytes)) 0)
-    (cond-has (λ (o : After Pushed). o .memory .free ≡ t .free) (fitsOf (q .cap) (q .leaves) (nextSlot q (t .free))) refl refl)
+copy-free : (q : ImpairQueue) (t : Tables) (due now : Float) (route id : ℕ) (bytes : List ℕ) → enterCopyOf slotWidth q t due now route id bytes .memory .free ≡ t .free
+unfolding enterCopyOf enteredOf
+copy-free q t due now route id bytes = cond-has (λ (o : AfterCopy). o .memory .free ≡ t .free) (fitsOf (q .cap) (q .leaves) (nextSlot q (t .free))) refl refl
+
+push-free : (q : ImpairQueue) (t : Tables) (due now : Float) (route id : ℕ) (duplicated : Bool) (bytes : List ℕ) → pushOf slotWidth q t due now route id duplicated bytes .memory .free ≡ t .free
+unfolding pushOf enterCopiesOf secondOf
+push-free q t due now route id duplicated bytes =
+    let one = enterCopyOf slotWidth q t due now route id bytes in
+    let first = copy-free q t due now route id bytes in
+    cond-has (λ (o : After Pushed). o .memory .free ≡ t .free) (eqb (pushRefusal slotWidth q (memoryOf slotWidth (q .cap) t) due now (length bytes)) 0)
+    (cond-has (λ (o : After Pushed). o .memory .free ≡ t .free) (againOf duplicated (one .gives)) (copy-free (one .gives .queue) (one .memory) due now route 1 bytes ∙ first) first)
     refl
 
-second-free : (a : Admitted) (t : Tables) (duplicated : Bool) (due now : Float) (route : ℕ) (bytes : List ℕ) → secondOf slotWidth a t duplicated due now route bytes .memory .free ≡ t .free
-unfolding secondOf pushAgainOf
-second-free a t duplicated due now route bytes =
-    cond-has (λ (o : After Admitted). o .memory .free ≡ t .free) (duplicated && eqb (a .number) 0) (push-free _ (a .queue) t due now route 1 bytes) refl
-
 follow-free : (q : ImpairQueue) (t : Tables) (d : Decision) (now : Float) (route : ℕ) (bytes : List ℕ) → followOf slotWidth q t d now route bytes .memory .free ≡ t .free
-unfolding followOf copiesOf firstOf pushOf
+unfolding followOf copiesOf
 follow-free q t DropRandom now route bytes = refl
 follow-free q t DropGe now route bytes = refl
 follow-free q t DropMtu now route bytes = refl
 follow-free q t DropBlackout now route bytes = refl
 follow-free q t DropKillHold now route bytes = refl
-follow-free q t (Enqueue due duplicated) now route bytes = second-free _ _ duplicated due now route bytes ∙ push-free _ q t due now route 0 bytes
+follow-free q t (Enqueue due duplicated) now route bytes = push-free q t due now route 0 duplicated bytes
 follow-free q t KillRst now route bytes = refl
 
 pub arrive-free : (v : Device) (t : Tables) (now : Float) (bytes : List ℕ) (route : ℕ) → arriveOf slotWidth v t now bytes route .memory .free ≡ t .free

@@ -1,7 +1,7 @@
 -- A call that is refused by any number but 26 leaves the device and all nine tables as they were, whatever they were: what is found after the first tests is 26.
 use mathlib.Core.Path.{_≡_, refl, sym, ap, _∙_, subst}
 use mathlib.Core.Logic.{_≢_, _⊎_, inl, inr, ⊎-elim}
-use mathlib.Core.Bool.{Bool, true, cond, _&&_}
+use mathlib.Core.Bool.{true, cond}
 use mathlib.Core.List.{List}
 use Prim.Native.Nat.{ℕ}
 use native.Mathlib.Omega.{arith}
@@ -21,7 +21,7 @@ use Rattle.engine.specs.Calls.{shouldRebindNowOf}
 use Rattle.engine.specs.Decide.{decidePassedOf}
 use Rattle.engine.specs.declared.answers.BoolAnswer.{BoolAnswer}
 use Rattle.engine.specs.declared.answers.BoolAnswer.the-variants as bool
-use Rattle.queue.specs.Calls.{pushOf, pushAgainOf, drainOf, releaseOf as queueReleaseOf}
+use Rattle.queue.specs.Calls.{pushOf, drainOf, releaseOf as queueReleaseOf}
 use Rattle.queue.specs.Refusals.{slotWidth}
 use Rattle.queue.specs.Tables.{Tables, After}
 use Rattle.queue.specs.declared.answers.DrainAnswer.{DrainAnswer}
@@ -33,9 +33,8 @@ use Rattle.queue.specs.declared.answers.ReleaseAnswer.{ReleaseAnswer}
 use Rattle.queue.specs.declared.answers.ReleaseAnswer.the-variants as left
 use Rattle.queue.specs.declared.queue.ImpairQueue.{ImpairQueue}
 use Rattle.machine.specs.Calls.{Call, arrive, release, rebind, teardown, report, Answer, refused, In, Refusal}
-use Rattle.admission.specs.Admitted.{talliedBy, tornBy, tornOf}
-use Rattle.admission.specs.Copies.{firstOf, secondOf, copiesOf}
-use Rattle.admission.specs.Follow.{followOf}
+use Rattle.admission.specs.Admitted.{askedOf, talliedBy, tornBy, tornOf}
+use Rattle.admission.specs.Follow.{copiesOf, followOf}
 use Rattle.admission.specs.declared.admitted.Admitted.{Admitted}
 use Rattle.device.specs.Arrive.{answerOf, settledOf, arriveRefusal, arriveOf}
 use Rattle.device.specs.Others.{reboundBy, rebindOf, tornBy as tornDownBy, teardownOf}
@@ -64,17 +63,10 @@ keeping k e = cc
 abbrev NoneOrKeeping : Admitted → Type 0
 NoneOrKeeping a = (a .number ≡ 0) ⊎ (a .number ≡ refusedKeeping)
 
-tallied-number : (p : PushAnswer) (q : ImpairQueue) (i o : ℕ) → NoneOrKeeping (talliedBy p q i o)
+tallied-number : (p : PushAnswer) (q : ImpairQueue) (asked : ℕ) → NoneOrKeeping (talliedBy p q asked)
 unfolding talliedBy
-tallied-number (push.Entered slot seq) q i o = inl refl
-tallied-number (push.Refused k) q i o = cond-has NoneOrKeeping (eqb k refusedFull) (inl refl) (inr refl)
-
-second-number : (a : Admitted) (t : Tables) (duplicated : Bool) (due now : Float) (route : ℕ) (bytes : List ℕ) → NoneOrKeeping a
-    → NoneOrKeeping (secondOf slotWidth a t duplicated due now route bytes .gives)
-unfolding secondOf
-second-number a t duplicated due now route bytes h =
-    cond-has (λ (x : After Admitted). NoneOrKeeping (x .gives)) (duplicated && eqb (a .number) 0)
-    (tallied-number (pushAgainOf slotWidth (a .queue) t due now route 1 bytes .gives .answer) _ (a .entered) (a .overflowed)) h
+tallied-number (push.Entered seq copies) q asked = inl refl
+tallied-number (push.Refused k) q asked = cond-has NoneOrKeeping (eqb k refusedFull) (inl refl) (inr refl)
 
 torn-number : (d : DrainAnswer) (q : ImpairQueue) → NoneOrKeeping (tornBy d q)
 unfolding tornBy
@@ -82,14 +74,13 @@ torn-number (drain.Drained n) q = inl refl
 torn-number (drain.Refused k) q = inr refl
 
 follow-number : (q : ImpairQueue) (t : Tables) (d : Decision) (now : Float) (route : ℕ) (bytes : List ℕ) → NoneOrKeeping (followOf slotWidth q t d now route bytes .gives)
-unfolding followOf copiesOf firstOf tornOf
+unfolding followOf copiesOf tornOf
 follow-number q t DropRandom now route bytes = inl refl
 follow-number q t DropGe now route bytes = inl refl
 follow-number q t DropMtu now route bytes = inl refl
 follow-number q t DropBlackout now route bytes = inl refl
 follow-number q t DropKillHold now route bytes = inl refl
-follow-number q t (Enqueue due duplicated) now route bytes =
-    second-number _ _ duplicated due now route bytes (tallied-number (pushOf slotWidth q t due now route 0 bytes .gives .answer) _ 0 0)
+follow-number q t (Enqueue due duplicated) now route bytes = tallied-number (pushOf slotWidth q t due now route 0 duplicated bytes .gives .answer) _ (askedOf duplicated)
 follow-number q t KillRst now route bytes = torn-number (drainOf q .answer) (drainOf q .queue)
 
 settled-keeping : (d : Decision) (n i o t : ℕ) → (n ≡ 0) ⊎ (n ≡ refusedKeeping) → OnlyKeeping (saidOfArrive (cond (eqb n 0) (answer.Decided d i o t) (answer.Refused n)))

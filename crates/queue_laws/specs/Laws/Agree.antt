@@ -2,41 +2,72 @@
 -- is then. A layer above the queue cites these laws and not the structure behind them.
 use mathlib.Core.Path.{_≡_, refl, sym, ap, _∙_, subst}
 use mathlib.Core.List.{List, [], _∷_}
-use mathlib.Core.Bool.{Bool, true, false, cond, not}
+use mathlib.Core.Bool.{Bool, true, false, cond, not, _&&_}
 use Prim.Native.Nat.{ℕ, _+_, _^_, _<_, _≤_}
 use native.Mathlib.Omega.{arith}
 use lib.Dec.{leb, eqb}
 use lib.Ieee.{Float, le, isNan}
 use lib.ListN.{length, getD}
-use borrow.Author.Tests.{le-leb, lt-leb, ne-eqb, leb-true, eqb-false}
+use borrow.Author.Tests.{le-leb, lt-leb, ne-eqb, leb-true, eqb-false, not-true}
 use Rattle.numbers.specs.Instant.{isInstantOf}
-use Rattle.numbers.specs.Laws.Both.{both}
+use Rattle.numbers.specs.Laws.Both.{both, both-true}
 use Rattle.numbers.specs.Laws.Limits.{counter-below}
 use Rattle.numbers.specs.Limits.{maxCapacity, isCounterOf}
 use Rattle.numbers.specs.Refusals.{refusedInstant, refusedLength, refusedCounter, refusedDue, refusedFull}
 use Rattle.numbers.specs.Whole.{whole}
 use Rattle.held.specs.Copies.{Copy, dueBy, leastIn, Leaving, leaving}
 use Rattle.held.specs.Laws.Due.{ifDue, least-due}
-use Rattle.tournament.specs.Calls.{fitsOf, enterOf, leastOf}
-use Rattle.queue.specs.Tables.{Tables, After, after, treeOf, rowsOf, writtenOf}
+use Rattle.tournament.specs.Calls.{leastOf}
+use Rattle.queue.specs.Tables.{Tables, After, after}
 use Rattle.queue.specs.Refusals.{memoryOf, inKeeping, refusalOf, pushRefusal, releaseRefusal, stateRefusal, dueRefusal}
-use Rattle.queue.specs.Calls.{nextSlot, notPushed, enteredOf, pushIf, pushOf, pushAgainOf, notReleased, leftOf, dueOf, releaseOf, drainOf, dueAt, nextDueOf, lenOf, isEmptyOf}
+use Rattle.queue.specs.Calls.{notPushed, AfterCopy, enterCopyOf, toldOf, told, againOf, secondOf, enterCopiesOf, pushOf, notReleased, leftOf, dueOf, releaseOf, drainOf, dueAt, nextDueOf, lenOf, isEmptyOf}
 use Rattle.queue.specs.declared.queue.ImpairQueue.{ImpairQueue}
 use Rattle.queue.specs.declared.answers.Released.{Released}
 use Rattle.queue.specs.declared.answers.DueAnswer.the-variants as due
 use Rattle.queue.specs.declared.answers.ReleaseAnswer.the-variants as release
-use Rattle.queue_laws.specs.Held.{Plain, Step, stepTo, entered, noneDue, drained, refused, pushPlainIf, pushPlain, pushAgainPlain, handOut, releasePlain, drainPlain, leastDue, nextDuePlain}
+use Rattle.queue_laws.specs.Held.{Plain, Step, stepTo, entered, noneDue, drained, refused, isFull, withCopy, secondPlain, pushPlain, handOut, releasePlain, drainPlain, leastDue, nextDuePlain}
 use Rattle.queue_laws.specs.Replies.{Said, said, saidByPush, saidByRelease, saidByDrain}
 use Rattle.queue_laws.specs.Laws.Rows.{seqLimit}
 use Rattle.queue_laws.specs.Laws.Keeps.{Keeps, rowOf}
 use Rattle.queue_laws.specs.Laws.Creation.{long-memory, drained-keeps}
-use Rattle.queue_laws.specs.Laws.Push.{next-fits, enter-keeps}
+use Rattle.queue_laws.specs.Laws.Push.{Entered, copy-enters}
 use Rattle.queue_laws.specs.Laws.Release.{some-held, root-below, number-dues, root-least, release-keeps}
 
 -- what a call says and leaves agrees with a step of the plain queue
 pub record Agree (width : ℕ) (s : Said) (step : Step) : Type 0 where
   pub says : s .reply ≡ step .reply
   pub keeps : Keeps width (s .tables) (s .queue) (step .then)
+
+-- ---- the copies that enter
+
+module _ (width : ℕ) (t : Tables) (q : ImpairQueue) (p : Plain) (k : Keeps width t q p) where
+  same-full : eqb (q .held) (q .cap) ≡ isFull p
+  same-full = rw (k .count, k .same-cap)
+
+  -- where the plain queue is not full, there is room
+  has-room : isFull p ≡ false → q .held < q .cap
+  has-room e = omega (arith, k .held-in, k .opened-in, k .leaves-in, k .count, k .same-cap, eqb-false (length (p .held)) (p .cap) e)
+
+-- the answer after the last copy
+told-agrees : (width seq copies : ℕ) (o : AfterCopy) (p : Plain) → Entered width o p → Agree width (saidByPush (told seq copies o)) (stepTo (entered seq copies) p)
+unfolding toldOf
+told-agrees width seq copies o p h = rw (h .fits) (record { says = refl; keeps = h .keeps })
+
+-- what follows a first copy with that seq
+module _ (width : ℕ) (o : AfterCopy) (p : Plain) (h : Entered width o p) (seq : ℕ) (due arrival : Float) (route : ℕ) (duplicated : Bool) (bytes : List ℕ)
+    (num : isNan due ≡ false) (fit : length bytes ≤ width) (below : p .nextSeq ≤ 2 ^ 60) where
+  again-same : againOf duplicated (o .gives) ≡ (duplicated && not (isFull p))
+  again-same = rw (h .fits, same-full width (o .memory) (o .gives .queue) p (h .keeps))
+
+  second-agrees : Agree width (saidByPush (secondOf width seq due arrival route duplicated bytes o)) (secondPlain seq p due arrival route duplicated bytes)
+  unfolding secondOf secondPlain
+  second-agrees = go (duplicated && not (isFull p)) refl
+    where
+      go : (b : Bool) → (duplicated && not (isFull p)) ≡ b → Agree width (saidByPush (secondOf width seq due arrival route duplicated bytes o)) (secondPlain seq p due arrival route duplicated bytes)
+      go false e = rw (again-same, e) (told-agrees width seq 1 o p h)
+      go true e =
+          let room = has-room width (o .memory) (o .gives .queue) p (h .keeps) (not-true (isFull p) ((both-true duplicated (not (isFull p)) e) .1)) in
+          rw (again-same, e) (told-agrees width seq 2 _ _ (copy-enters width (o .memory) (o .gives .queue) p (h .keeps) room due arrival route 1 bytes num fit (omega (arith, h .keeps .same-next, below))))
 
 module _ (width : ℕ) (t : Tables) (q : ImpairQueue) (p : Plain) (k : Keeps width t q p) where
   -- ---- the refusals: neither the memory nor the keeping fails
@@ -48,16 +79,13 @@ module _ (width : ℕ) (t : Tables) (q : ImpairQueue) (p : Plain) (k : Keeps wid
   unfolding inKeeping
   keeping-holds = both _ _ (both _ _ (both _ _ (le-leb _ _ (k .small)) (le-leb _ _ (k .leaves-in))) (le-leb _ _ (k .opened-in))) (le-leb _ _ (k .held-in))
 
-  same-full : eqb (q .held) (q .cap) ≡ eqb (length (p .held)) (p .cap)
-  same-full = rw (k .count, k .same-cap)
-
   same-counter : isCounterOf (q .«next_seq») ≡ isCounterOf (p .nextSeq)
   same-counter = rw (k .same-next)
 
-  push-tests : (counter : Bool) (due arrival : Float) (len : ℕ) → pushRefusal counter width q (memoryOf width (q .cap) t) due arrival len
-      ≡ refusalOf true (isInstantOf arrival) (leb len width) (not (isNan due)) counter true (not (eqb (length (p .held)) (p .cap)))
+  push-tests : (due arrival : Float) (len : ℕ) → pushRefusal width q (memoryOf width (q .cap) t) due arrival len
+      ≡ refusalOf true (isInstantOf arrival) (leb len width) (not (isNan due)) (isCounterOf (p .nextSeq)) true (not (isFull p))
   unfolding pushRefusal
-  push-tests counter due arrival len = rw (memory-holds, keeping-holds, same-full)
+  push-tests due arrival len = rw (memory-holds, keeping-holds, same-full width t q p k, same-counter)
 
   release-tests : (now : Float) → releaseRefusal q (memoryOf width (q .cap) t) now ≡ refusalOf true (isInstantOf now) true true (isCounterOf (p .nextSeq)) true true
   unfolding releaseRefusal
@@ -73,51 +101,41 @@ module _ (width : ℕ) (t : Tables) (q : ImpairQueue) (p : Plain) (k : Keeps wid
 
   -- ---- push
 
-  module _ (counter : Bool) (below : counter ≡ true → q .«next_seq» < seqLimit) (due arrival : Float) (route id : ℕ) (bytes : List ℕ) where
-    push-refused : (n : ℕ) → (n ≡ 0 → ⊥) → pushRefusal counter width q (memoryOf width (q .cap) t) due arrival (length bytes) ≡ n → pushIf counter width q t due arrival route id bytes ≡ after (notPushed q n) t
-    unfolding pushIf
+  module _ (due arrival : Float) (route id : ℕ) (duplicated : Bool) (bytes : List ℕ) where
+    push-refused : (n : ℕ) → (n ≡ 0 → ⊥) → pushRefusal width q (memoryOf width (q .cap) t) due arrival (length bytes) ≡ n → pushOf width q t due arrival route id duplicated bytes ≡ after (notPushed q n) t
+    unfolding pushOf
     push-refused n some e = rw (e, ne-eqb n 0 some)
 
-    push-enters : pushRefusal counter width q (memoryOf width (q .cap) t) due arrival (length bytes) ≡ 0 → fitsOf (q .cap) (q .leaves) (nextSlot q (t .free)) ≡ true
-        → pushIf counter width q t due arrival route id bytes
-        ≡ enteredOf q (enterOf (q .cap) (nextSlot q (t .free)) due (q .«next_seq») (treeOf (q .leaves) t)) (t .free) (writtenOf width (rowsOf t) (nextSlot q (t .free)) arrival route id bytes) (nextSlot q (t .free))
-    unfolding pushIf
-    push-enters e f = rw (e, f)
+    push-passes : pushRefusal width q (memoryOf width (q .cap) t) due arrival (length bytes) ≡ 0
+        → pushOf width q t due arrival route id duplicated bytes ≡ secondOf width (q .«next_seq») due arrival route duplicated bytes (enterCopyOf width q t due arrival route id bytes)
+    unfolding pushOf enterCopiesOf
+    push-passes e = rw e
 
-    push-if-agrees : Agree width (saidByPush (pushIf counter width q t due arrival route id bytes)) (pushPlainIf counter width p due arrival route id bytes)
-    unfolding pushPlainIf refusalOf enteredOf
-    push-if-agrees = go (isInstantOf arrival) refl (leb (length bytes) width) refl (isNan due) refl counter refl (eqb (length (p .held)) (p .cap)) refl
-      where
-        go : (a : Bool) → isInstantOf arrival ≡ a → (b : Bool) → leb (length bytes) width ≡ b → (c : Bool) → isNan due ≡ c → (d : Bool) → counter ≡ d → (e : Bool) → eqb (length (p .held)) (p .cap) ≡ e
-            → Agree width (saidByPush (pushIf counter width q t due arrival route id bytes)) (pushPlainIf counter width p due arrival route id bytes)
-        go false ea b eb c ec d ed e ee = rw (push-refused refusedInstant (λ z. omega arith) (push-tests counter due arrival (length bytes) ∙ (rw ea)), ea) (refuses refusedInstant)
-        go true ea false eb c ec d ed e ee = rw (push-refused refusedLength (λ z. omega arith) (push-tests counter due arrival (length bytes) ∙ (rw (ea, eb))), ea, eb) (refuses refusedLength)
-        go true ea true eb true ec d ed e ee = rw (push-refused refusedDue (λ z. omega arith) (push-tests counter due arrival (length bytes) ∙ (rw (ea, eb, ec))), ea, eb, ec) (refuses refusedDue)
-        go true ea true eb false ec false ed e ee = rw (push-refused refusedCounter (λ z. omega arith) (push-tests counter due arrival (length bytes) ∙ (rw (ea, eb, ec, ed))), ea, eb, ec, ed) (refuses refusedCounter)
-        go true ea true eb false ec true ed true ee = rw (push-refused refusedFull (λ z. omega arith) (push-tests counter due arrival (length bytes) ∙ (rw (ea, eb, ec, ed, ee))), ea, eb, ec, ed, ee) (refuses refusedFull)
-        go true ea true eb false ec true ed false ee =
-            let room : q .held < q .cap = omega (arith, k .held-in, k .opened-in, k .leaves-in, k .count, k .same-cap, eqb-false (length (p .held)) (p .cap) ee) in
-            rw (push-enters (push-tests counter due arrival (length bytes) ∙ (rw (ea, eb, ec, ed, ee))) (next-fits width t q p k room), ea, eb, ec, ed, ee)
-            (record { says = ap entered (k .same-next); keeps = enter-keeps width t q p k room due arrival route id bytes ec (leb-true _ _ eb) (below ed) })
+    -- the first copy enters, then what follows it
+    push-enters : isFull p ≡ false → isNan due ≡ false → length bytes ≤ width → p .nextSeq < 2 ^ 60
+        → Agree width (saidByPush (secondOf width (q .«next_seq») due arrival route duplicated bytes (enterCopyOf width q t due arrival route id bytes)))
+        (secondPlain (p .nextSeq) (withCopy p due arrival route id bytes) due arrival route duplicated bytes)
+    push-enters room num fit below =
+        let one = copy-enters width t q p k (has-room width t q p k room) due arrival route id bytes num fit (omega (arith, k .same-next, below)) in
+        subst (λ (seq : ℕ). Agree width (saidByPush (secondOf width seq due arrival route duplicated bytes (enterCopyOf width q t due arrival route id bytes)))
+        (secondPlain (p .nextSeq) (withCopy p due arrival route id bytes) due arrival route duplicated bytes)) (sym (k .same-next))
+        (second-agrees width (enterCopyOf width q t due arrival route id bytes) (withCopy p due arrival route id bytes) one (p .nextSeq) due arrival route duplicated bytes num fit (omega (arith, below)))
 
-  module _ (due arrival : Float) (route id : ℕ) (bytes : List ℕ) where
     -- a push, on any arguments
-    pub push-agrees : Agree width (saidByPush (pushOf width q t due arrival route id bytes)) (pushPlain width p due arrival route id bytes)
-    unfolding pushOf pushPlain
-    push-agrees = rw same-counter (push-if-agrees (isCounterOf (p .nextSeq)) below due arrival route id bytes)
+    pub push-agrees : Agree width (saidByPush (pushOf width q t due arrival route id duplicated bytes)) (pushPlain width p due arrival route id duplicated bytes)
+    unfolding pushPlain refusalOf
+    push-agrees = go (isInstantOf arrival) refl (leb (length bytes) width) refl (isNan due) refl (isCounterOf (p .nextSeq)) refl (isFull p) refl
       where
-        below : isCounterOf (p .nextSeq) ≡ true → q .«next_seq» < seqLimit
-        below h = omega (arith, counter-below (p .nextSeq) h, k .same-next)
-
-    -- the second copy of a packet, on any arguments
-    pub push-again-agrees : Agree width (saidByPush (pushAgainOf width q t due arrival route id bytes)) (pushAgainPlain width p due arrival route id bytes)
-    unfolding pushAgainOf pushAgainPlain
-    push-again-agrees =
-        subst (λ (seq : ℕ). Agree width (saidByPush (pushIf (leb seq (2 ^ 60)) width q t due arrival route id bytes)) (pushAgainPlain width p due arrival route id bytes)) (sym (k .same-next))
-        (push-if-agrees (leb (p .nextSeq) (2 ^ 60)) below due arrival route id bytes)
-      where
-        below : leb (p .nextSeq) (2 ^ 60) ≡ true → q .«next_seq» < seqLimit
-        below h = omega (arith, leb-true (p .nextSeq) (2 ^ 60) h, k .same-next)
+        go : (a : Bool) → isInstantOf arrival ≡ a → (b : Bool) → leb (length bytes) width ≡ b → (c : Bool) → isNan due ≡ c → (d : Bool) → isCounterOf (p .nextSeq) ≡ d → (e : Bool) → isFull p ≡ e
+            → Agree width (saidByPush (pushOf width q t due arrival route id duplicated bytes)) (pushPlain width p due arrival route id duplicated bytes)
+        go false ea b eb c ec d ed e ee = rw (push-refused refusedInstant (λ z. omega arith) (push-tests due arrival (length bytes) ∙ (rw ea)), ea) (refuses refusedInstant)
+        go true ea false eb c ec d ed e ee = rw (push-refused refusedLength (λ z. omega arith) (push-tests due arrival (length bytes) ∙ (rw (ea, eb))), ea, eb) (refuses refusedLength)
+        go true ea true eb true ec d ed e ee = rw (push-refused refusedDue (λ z. omega arith) (push-tests due arrival (length bytes) ∙ (rw (ea, eb, ec))), ea, eb, ec) (refuses refusedDue)
+        go true ea true eb false ec false ed e ee = rw (push-refused refusedCounter (λ z. omega arith) (push-tests due arrival (length bytes) ∙ (rw (ea, eb, ec, ed))), ea, eb, ec, ed) (refuses refusedCounter)
+        go true ea true eb false ec true ed true ee = rw (push-refused refusedFull (λ z. omega arith) (push-tests due arrival (length bytes) ∙ (rw (ea, eb, ec, ed, ee))), ea, eb, ec, ed, ee) (refuses refusedFull)
+        go true ea true eb false ec true ed false ee =
+            rw (push-passes (push-tests due arrival (length bytes) ∙ (rw (ea, eb, ec, ed, ee))), ea, eb, ec, ed, ee)
+            (push-enters ee ec (leb-true _ _ eb) (counter-below (p .nextSeq) ed))
 
   -- ---- release
 

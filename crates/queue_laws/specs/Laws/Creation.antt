@@ -9,6 +9,7 @@ use lib.Dec.{leb}
 use lib.ListN.{length, getD}
 use borrow.Author.Tests.{le-leb, lt-leb, leb-true}
 use Rattle.numbers.specs.Laws.Both.{both-true}
+use Rattle.numbers.specs.Laws.NotNan.{cond-has}
 use Rattle.numbers.specs.Limits.{maxCapacity}
 use Rattle.numbers.specs.Refusals.{refusedMemory, refusedCapacity}
 use Rattle.held.specs.Copies.{Copy}
@@ -142,3 +143,17 @@ create-keeps width cap t = go (leb 1 cap && leb cap maxCapacity) refl (memoryOf 
     go true ea true eb h =
         let range = both-true (leb 1 cap) (leb cap maxCapacity) ea in
         nothing-held width cap t 0 (leb-true 1 cap (range .0)) (leb-true cap maxCapacity (range .1)) (memory-long width cap t eb) (omega arith)
+
+-- a creation that was refused: a queue of capacity 1 that holds nothing, on any memory that is long enough for it
+module _ (width cap : ℕ) (t later : Tables) (n : ℕ) where
+  abbrev One : Created → Type 0
+  One c = c .answer ≡ create.Refused n → memoryOf width 1 later ≡ true → Keeps width later (c .queue) (plain 1 [] 0)
+
+  one : (k : ℕ) → One (notCreated k)
+  one k e long = nothing-held width 1 later 0 (omega arith) (omega arith) (memory-long width 1 later long) (omega arith)
+
+  pub refused-keeps : One (createOf width cap t)
+  unfolding createOf
+  refused-keeps =
+      cond-has One (not (leb 1 cap && leb cap maxCapacity)) (one refusedCapacity)
+      (cond-has One (not (memoryOf width cap t)) (one refusedMemory) (λ e long. let z : _≡_ {A = ℕ} 0 1 = cc in absurd (omega arith)))

@@ -1,5 +1,5 @@
 -- A push that is not refused carries `Keeps` on: the copy stands at the end of the held list.
-use mathlib.Core.Path.{_≡_, sym, ap, _∙_, subst}
+use mathlib.Core.Path.{_≡_, refl, sym, ap, _∙_, subst}
 use mathlib.Core.Logic.{_≢_, _⊎_, inl, inr, ⊎-elim}
 use mathlib.Core.Bool.{true}
 use mathlib.Core.List.{List, [], _∷_, _++_}
@@ -17,9 +17,9 @@ use Rattle.tournament.specs.Paths.{climbedOf}
 use Rattle.tournament.specs.Growth.{freeDue, freeSeq, freeDues, freeSeqs, builtOf, Tree, grownOf, leavesFor, widenedOf}
 use Rattle.tournament.specs.Calls.{fitsOf, placedOf, enterOf}
 use Rattle.queue.specs.Tables.{Tables, tables, rowsOf, writtenOf, treeOf, joined}
-use Rattle.queue.specs.Calls.{queue, nextSlot, oneMore}
+use Rattle.queue.specs.Calls.{queue, nextSlot, oneMore, AfterCopy, enteredOf, enterCopyOf}
 use Rattle.queue.specs.declared.queue.ImpairQueue.{ImpairQueue}
-use Rattle.queue_laws.specs.Held.{Plain, plain}
+use Rattle.queue_laws.specs.Held.{Plain, withCopy}
 use Rattle.queue_laws.specs.Laws.Tree.{eq-cases, lt-cases, due-order, climbed-length}
 use Rattle.queue_laws.specs.Laws.Growth.{setAll-length, setAll-below, setAll-at, built-length, built-good, widened-same, widened-more}
 use Rattle.queue_laws.specs.Laws.Calls.{true-fits, enter-is}
@@ -39,9 +39,10 @@ next-slot q free h = ⊎-elim
     (λ (e : q .held ≢ q .opened). inr (omega arith, rw (ne-eqb (q .held) (q .opened) e)))
     (eq-cases (q .held) (q .opened))
 
--- the plain queue with one copy more
-abbrev pub withCopy : Plain → Float → Float → ℕ → ℕ → List ℕ → Plain
-withCopy p due arrival route id bytes = plain (p .cap) (p .held ++ (copy due (p .nextSeq) arrival route id (length bytes) bytes ∷ [])) (p .nextSeq + 1)
+-- a copy entered: its slot was in range, and the tables keep the plain queue with it
+pub record Entered (width : ℕ) (o : AfterCopy) (p : Plain) : Type 0 where
+  pub fits : o .gives .fits ≡ true
+  pub keeps : Keeps width (o .memory) (o .gives .queue) p
 
 -- ---- a copy enters a slot that has a leaf
 
@@ -238,7 +239,7 @@ module _ (width : ℕ) (t : Tables) (q : ImpairQueue) (p : Plain) (k : Keeps wid
   next-low = ⊎-elim (λ w. omega (arith, w .0, w .1)) (λ w. omega (arith, w .1, k .opened-in, k .leaves-in, k .free-low (q .opened - q .held - 1) (omega (arith, w .0)))) (next-slot q (t .free) (k .held-in))
 
   -- the next slot can enter the tree, so that 26 does not come
-  pub next-fits : fitsOf (q .cap) (q .leaves) (nextSlot q (t .free)) ≡ true
+  next-fits : fitsOf (q .cap) (q .leaves) (nextSlot q (t .free)) ≡ true
   next-fits = true-fits (q .cap) (q .leaves) (nextSlot q (t .free)) (k .small) (k .leaves-in) next-low (omega (arith, next-high, k .opened-in))
 
   module _ (due arrival : Float) (route id : ℕ) (bytes : List ℕ) (num : Num due) (fit : length bytes ≤ width) (more : q .«next_seq» < seqLimit) where
@@ -257,5 +258,9 @@ module _ (width : ℕ) (t : Tables) (q : ImpairQueue) (p : Plain) (k : Keeps wid
         (push-keeps width _ _ p (grow-keeps width t q p k (leavesFor (q .cap) (q .leaves)) (omega (arith, k .leaves-in)) (omega (arith, k .pos)) (omega arith)) due arrival route id bytes num fit more (nextSlot q (t .free)) (next-slot q (t .free) (k .held-in)) (omega (arith, next-high, next-low, k .opened-in))))
         (lt-cases (nextSlot q (t .free)) (q .leaves))
 
-    pub enter-keeps : Enters (enterOf (q .cap) (nextSlot q (t .free)) due (q .«next_seq») (treeOf (q .leaves) t))
+    enter-keeps : Enters (enterOf (q .cap) (nextSlot q (t .free)) due (q .«next_seq») (treeOf (q .leaves) t))
     enter-keeps = subst Enters (sym (enter-is (q .cap) (nextSlot q (t .free)) due (q .«next_seq») (treeOf (q .leaves) t) next-fits)) widened-keeps
+
+    pub copy-enters : Entered width (enterCopyOf width q t due arrival route id bytes) (withCopy p due arrival route id bytes)
+    unfolding enterCopyOf enteredOf
+    copy-enters = rw next-fits (record { fits = refl; keeps = enter-keeps })

@@ -2,8 +2,8 @@
 use mathlib.Core.Path.{_≡_, sym, _∙_}
 use mathlib.Core.Logic.{_≢_}
 use mathlib.Core.List.{List, [], _∷_}
-use mathlib.Core.Bool.{Bool, true, false, cond, not}
-use Prim.Native.Nat.{ℕ, _^_, _≤_}
+use mathlib.Core.Bool.{Bool, true, false, cond, not, _&&_}
+use Prim.Native.Nat.{ℕ, _≤_}
 use native.Mathlib.Omega.{arith}
 use lib.Dec.{leb, eqb, eqb→eq}
 use lib.Ieee.{Float, isNan}
@@ -15,13 +15,13 @@ use Rattle.numbers.specs.Limits.{isCounterOf}
 use Rattle.numbers.specs.Refusals.{refusedInstant, refusedLength, refusedMemory, refusedCounter, refusedKeeping, refusedDue, refusedFull}
 use Rattle.held.specs.Copies.{Copy, Leaving, noCopy, oneCopy, leaving}
 use Rattle.queue.specs.Tables.{Tables}
-use Rattle.queue.specs.Calls.{pushOf, pushAgainOf, nextDueOf}
+use Rattle.queue.specs.Calls.{pushOf, nextDueOf}
 use Rattle.queue.specs.declared.queue.ImpairQueue.{ImpairQueue}
 use Rattle.queue.specs.declared.answers.DueAnswer.the-variants as due
-use Rattle.queue_laws.specs.Held.{Plain, Step, stepTo, Call, push, release, drain, entered, released, noneDue, drained, refused, pushPlainIf, pushPlain, pushAgainPlain, handOut, releasePlain, drainPlain, leastDue, nextDuePlain, step}
+use Rattle.queue_laws.specs.Held.{Plain, Step, stepTo, Call, push, release, drain, entered, released, noneDue, drained, refused, isFull, withCopy, secondPlain, pushPlain, handOut, releasePlain, drainPlain, leastDue, nextDuePlain, step}
 use Rattle.queue_laws.specs.Replies.{answerTo, saidByPush}
 use Rattle.queue_laws.specs.Laws.Keeps.{Keeps}
-use Rattle.queue_laws.specs.Laws.Agree.{push-agrees, push-again-agrees, due-agrees}
+use Rattle.queue_laws.specs.Laws.Agree.{push-agrees, due-agrees}
 use Rattle.queue_laws.specs.Laws.Runs.{call-agrees}
 
 -- a refusal that is neither 23 nor 26
@@ -38,15 +38,18 @@ clear-refused m p h n e = let z : m ≡ n = cc in ((λ (a : n ≡ refusedMemory)
 clear-none : (p : Plain) → Clear (stepTo noneDue p)
 clear-none p n e = let z : _≡_ {A = ℕ} 0 1 = cc in absurd (omega arith)
 
-push-clear : (counter : Bool) (width : ℕ) (p : Plain) (due arrival : Float) (route id : ℕ) (bytes : List ℕ) → Clear (pushPlainIf counter width p due arrival route id bytes)
-unfolding pushPlainIf
-push-clear counter width p due arrival route id bytes =
+clear-entered : (seq copies : ℕ) (p : Plain) → Clear (stepTo (entered seq copies) p)
+clear-entered seq copies p n e = let z : _≡_ {A = ℕ} 0 1 = cc in absurd (omega arith)
+
+push-clear : (width : ℕ) (p : Plain) (due arrival : Float) (route id : ℕ) (duplicated : Bool) (bytes : List ℕ) → Clear (pushPlain width p due arrival route id duplicated bytes)
+unfolding pushPlain secondPlain
+push-clear width p due arrival route id duplicated bytes =
     cond-has Clear (not (isInstantOf arrival)) (clear-refused refusedInstant p ((λ z. omega arith), λ z. omega arith))
     (cond-has Clear (not (leb (length bytes) width)) (clear-refused refusedLength p ((λ z. omega arith), λ z. omega arith))
     (cond-has Clear (isNan due) (clear-refused refusedDue p ((λ z. omega arith), λ z. omega arith))
-    (cond-has Clear (not counter) (clear-refused refusedCounter p ((λ z. omega arith), λ z. omega arith))
-    (cond-has Clear (eqb (length (p .held)) (p .cap)) (clear-refused refusedFull p ((λ z. omega arith), λ z. omega arith))
-    (λ (n : ℕ) (e : entered (p .nextSeq) ≡ refused n). let z : _≡_ {A = ℕ} 0 1 = cc in absurd (omega arith))))))
+    (cond-has Clear (not (isCounterOf (p .nextSeq))) (clear-refused refusedCounter p ((λ z. omega arith), λ z. omega arith))
+    (cond-has Clear (isFull p) (clear-refused refusedFull p ((λ z. omega arith), λ z. omega arith))
+    (cond-has Clear (duplicated && not (isFull (withCopy p due arrival route id bytes))) (clear-entered (p .nextSeq) 2 (withCopy (withCopy p due arrival route id bytes) due arrival route 1 bytes)) (clear-entered (p .nextSeq) 1 (withCopy p due arrival route id bytes)))))))
 
 hand-clear : (p : Plain) (x : Leaving) → Clear (handOut p x)
 unfolding handOut
@@ -67,21 +70,14 @@ drain-clear p =
     (λ (n : ℕ) (e : drained (length (p .held)) ≡ refused n). let z : _≡_ {A = ℕ} 0 1 = cc in absurd (omega arith))
 
 step-clear : (width : ℕ) (p : Plain) (c : Call) → Clear (step width p c)
-unfolding step pushPlain
-step-clear width p (push due arrival route id bytes) = push-clear (isCounterOf (p .nextSeq)) width p due arrival route id bytes
+unfolding step
+step-clear width p (push due arrival route id duplicated bytes) = push-clear width p due arrival route id duplicated bytes
 step-clear width p (release now) = release-clear p now
 step-clear width p drain = drain-clear p
 
 -- no call is refused with 23 or 26
 pub neither-refused : (width : ℕ) (t : Tables) (q : ImpairQueue) (p : Plain) → Keeps width t q p → (c : Call) (n : ℕ) → answerTo width q t c .reply ≡ refused n → Neither n
 neither-refused width t q p k c n e = step-clear width p c n (sym (call-agrees width t q p k c .says) ∙ e)
-
--- nor is the second copy of a packet
-pub again-neither-refused : (width : ℕ) (t : Tables) (q : ImpairQueue) (p : Plain) → Keeps width t q p → (due arrival : Float) (route id : ℕ) (bytes : List ℕ) (n : ℕ)
-    → saidByPush (pushAgainOf width q t due arrival route id bytes) .reply ≡ refused n → Neither n
-unfolding pushAgainPlain
-again-neither-refused width t q p k due arrival route id bytes n e =
-    push-clear (leb (p .nextSeq) (2 ^ 60)) width p due arrival route id bytes n (sym (push-again-agrees width t q p k due arrival route id bytes .says) ∙ e)
 
 -- nor is the question for the next due, whose one refusal is 25
 pub due-refused : (width : ℕ) (t : Tables) (q : ImpairQueue) (p : Plain) → Keeps width t q p → (n : ℕ) → nextDueOf q (t .win) (t .dues) ≡ due.Refused n → n ≡ refusedCounter
@@ -94,43 +90,35 @@ due-refused width t q p k n e = go (isCounterOf (p .nextSeq)) (p .held) (sym (du
     go true (c ∷ l) h = let z : _≡_ {A = ℕ} 0 1 = cc in absurd (omega arith)
 
 -- 28 comes only where as many copies are held as the capacity
-module _ (width : ℕ) (t : Tables) (q : ImpairQueue) (p : Plain) (k : Keeps width t q p) (due arrival : Float) (route id : ℕ) (bytes : List ℕ) where
+module _ (width : ℕ) (t : Tables) (q : ImpairQueue) (p : Plain) (k : Keeps width t q p) (due arrival : Float) (route id : ℕ) (duplicated : Bool) (bytes : List ℕ) where
   abbrev Full : Step → Type 0
   Full s = s .reply ≡ refused refusedFull → length (p .held) ≡ p .cap
 
   other-number : (m : ℕ) → m ≢ refusedFull → Full (stepTo (refused m) p)
   other-number m h e = let z : m ≡ refusedFull = cc in absurd (h z)
 
-  plain-full : (counter : Bool) → Full (pushPlainIf counter width p due arrival route id bytes)
-  unfolding pushPlainIf
-  plain-full counter =
+  none-refused : (copies : ℕ) (r : Plain) → Full (stepTo (entered (p .nextSeq) copies) r)
+  none-refused copies r e = let z : _≡_ {A = ℕ} 0 1 = cc in absurd (omega arith)
+
+  plain-full : Full (pushPlain width p due arrival route id duplicated bytes)
+  unfolding pushPlain secondPlain
+  plain-full =
       cond-has Full (not (isInstantOf arrival)) (other-number refusedInstant (λ z. omega arith))
       (cond-has Full (not (leb (length bytes) width)) (other-number refusedLength (λ z. omega arith))
       (cond-has Full (isNan due) (other-number refusedDue (λ z. omega arith))
-      (cond-has Full (not counter) (other-number refusedCounter (λ z. omega arith))
-      (cond-when Full (eqb (length (p .held)) (p .cap)) (λ h e. eqb→eq (length (p .held)) (p .cap) h)
-      (λ (e : entered (p .nextSeq) ≡ refused refusedFull). let z : _≡_ {A = ℕ} 0 1 = cc in absurd (omega arith))))))
+      (cond-has Full (not (isCounterOf (p .nextSeq))) (other-number refusedCounter (λ z. omega arith))
+      (cond-when Full (isFull p) (λ h e. eqb→eq (length (p .held)) (p .cap) h)
+      (cond-has Full (duplicated && not (isFull (withCopy p due arrival route id bytes))) (none-refused 2 (withCopy (withCopy p due arrival route id bytes) due arrival route 1 bytes)) (none-refused 1 (withCopy p due arrival route id bytes)))))))
 
-  pub full-only : saidByPush (pushOf width q t due arrival route id bytes) .reply ≡ refused refusedFull → length (p .held) ≡ p .cap
+  pub full-only : saidByPush (pushOf width q t due arrival route id duplicated bytes) .reply ≡ refused refusedFull → length (p .held) ≡ p .cap
+  full-only e = plain-full (sym (push-agrees width t q p k due arrival route id duplicated bytes .says) ∙ e)
+
+  -- and there it comes, for a packet that meets no other refusal
+  plain-refused : isInstantOf arrival ≡ true → length bytes ≤ width → isNan due ≡ false → isCounterOf (p .nextSeq) ≡ true → length (p .held) ≡ p .cap
+      → pushPlain width p due arrival route id duplicated bytes .reply ≡ refused refusedFull
   unfolding pushPlain
-  full-only e = plain-full (isCounterOf (p .nextSeq)) (sym (push-agrees width t q p k due arrival route id bytes .says) ∙ e)
-
-  pub again-full-only : saidByPush (pushAgainOf width q t due arrival route id bytes) .reply ≡ refused refusedFull → length (p .held) ≡ p .cap
-  unfolding pushAgainPlain
-  again-full-only e = plain-full (leb (p .nextSeq) (2 ^ 60)) (sym (push-again-agrees width t q p k due arrival route id bytes .says) ∙ e)
-
-  -- and there it comes, for a copy that meets no other refusal
-  plain-refused : (counter : Bool) → isInstantOf arrival ≡ true → length bytes ≤ width → isNan due ≡ false → counter ≡ true → length (p .held) ≡ p .cap
-      → pushPlainIf counter width p due arrival route id bytes .reply ≡ refused refusedFull
-  unfolding pushPlainIf
-  plain-refused counter a b c d e = rw (a, le-leb (length bytes) width b, c, d, eq-eqb (length (p .held)) (p .cap) e)
+  plain-refused a b c d e = rw (a, le-leb (length bytes) width b, c, d, eq-eqb (length (p .held)) (p .cap) e)
 
   pub full-refused : isInstantOf arrival ≡ true → length bytes ≤ width → isNan due ≡ false → isCounterOf (p .nextSeq) ≡ true → length (p .held) ≡ p .cap
-      → saidByPush (pushOf width q t due arrival route id bytes) .reply ≡ refused refusedFull
-  unfolding pushPlain
-  full-refused a b c d e = push-agrees width t q p k due arrival route id bytes .says ∙ plain-refused (isCounterOf (p .nextSeq)) a b c d e
-
-  pub again-full-refused : isInstantOf arrival ≡ true → length bytes ≤ width → isNan due ≡ false → p .nextSeq ≤ 2 ^ 60 → length (p .held) ≡ p .cap
-      → saidByPush (pushAgainOf width q t due arrival route id bytes) .reply ≡ refused refusedFull
-  unfolding pushAgainPlain
-  again-full-refused a b c d e = push-again-agrees width t q p k due arrival route id bytes .says ∙ plain-refused (leb (p .nextSeq) (2 ^ 60)) a b c (le-leb (p .nextSeq) (2 ^ 60) d) e
+      → saidByPush (pushOf width q t due arrival route id duplicated bytes) .reply ≡ refused refusedFull
+  full-refused a b c d e = push-agrees width t q p k due arrival route id duplicated bytes .says ∙ plain-refused a b c d e
