@@ -11,10 +11,11 @@ use Rattle.engine.specs.Calls.{newEngineOf}
 use Rattle.engine.specs.Engine.{freshOf}
 use Rattle.engine.specs.declared.answers.Changed.{Changed}
 use Rattle.engine.specs.declared.engine.ArrivalEngine.{ArrivalEngine}
-use Rattle.queue.specs.Calls.{fresh, createOf as queueOf}
+use Rattle.queue.specs.Calls.{smallestQueue, createOf as queueOf}
 use Rattle.queue.specs.Tables.{Tables}
 use Rattle.queue.specs.declared.answers.CreateAnswer.the-variants as made
 use Rattle.queue.specs.declared.answers.Created.{Created as QueueCreated}
+use Rattle.queue.specs.declared.queue.ImpairQueue.{ImpairQueue}
 use Rattle.device.specs.Creation.{freshDevice, notCreated, queuedBy, queuedOn, createdBy, createOf}
 use Rattle.device.specs.declared.answers.CreateAnswer.the-variants as answer
 use Rattle.device.specs.declared.answers.Created.{Created}
@@ -25,12 +26,13 @@ default-engine : newEngineOf defaultDirection 0 .engine ≡ freshOf defaultDirec
 unfolding newEngineOf
 default-engine = cond-has (λ (x : Changed). x .engine ≡ freshOf defaultDirection 0) (isSettingsOf defaultDirection) refl refl
 
-pub not-created-is : (cfg : DirectionConfig) (changed : Changed) (v : Device) (k : ℕ) → cfg ≡ defaultDirection → changed ≡ newEngineOf cfg 0 → v ≡ freshDevice (changed .engine) (fresh 1 0)
+pub not-created-is : (cfg : DirectionConfig) (changed : Changed) (q : ImpairQueue) (v : Device) (k : ℕ) → cfg ≡ defaultDirection → changed ≡ newEngineOf cfg 0 → q ≡ smallestQueue
+    → v ≡ freshDevice (changed .engine) q
     → (record { device = v; answer = answer.Refused k }) ≡ notCreated k
 unfolding notCreated
-not-created-is cfg changed v k ec en ev =
+not-created-is cfg changed q v k ec en eq ev =
     let engine = ap (λ (x : Changed). x .engine) en ∙ ap (λ (x : DirectionConfig). newEngineOf x 0 .engine) ec ∙ default-engine in
-    ap (λ (x : Device). record { device = x; answer = answer.Refused k }) (ev ∙ ap (λ (e : ArrivalEngine). freshDevice e (fresh 1 0)) engine)
+    ap (λ (x : Device). record { device = x; answer = answer.Refused k }) (ev ∙ (λ i. freshDevice (engine i) (eq i)))
 
 pub queued-done : (e : ArrivalEngine) (q : QueueCreated) (v : Device) → q .answer ≡ made.Created → v ≡ freshDevice e (q .queue) → (record { device = v; answer = answer.Created }) ≡ queuedOn e q
 unfolding queuedBy

@@ -1,17 +1,18 @@
 -- What the refusals are made of, and what a call that meets none has passed.
-use mathlib.Core.Path.{_≡_, refl}
-use mathlib.Core.Bool.{Bool, true, false}
+use mathlib.Core.Path.{_≡_}
+use mathlib.Core.Bool.{Bool, true}
 use Prim.Native.Nat.{ℕ}
 use native.Mathlib.Omega.{arith}
 use lib.ListN.{length}
 use Rattle.numbers.specs.Laws.Both.{both-true}
+use Rattle.numbers.specs.Laws.Checks.{none-failing}
 use Rattle.numbers.specs.Limits.{isCounterOf}
 use Rattle.accounts.specs.Counters.{areCounters, accountantCounters, statsCounters}
 use Rattle.engine.specs.Refusals.{countersPass}
 use Rattle.queue.specs.Refusals.{roomOf, memoryOf}
 use Rattle.queue.specs.Tables.{Tables}
 use Rattle.machine.specs.Machine.{inRange}
-use Rattle.device.specs.Refusals.{refusalOf, callRefusal}
+use Rattle.device.specs.Refusals.{deviceChecks, callRefusal}
 use Rattle.device.specs.declared.device.Device.{Device}
 
 -- whether the lent memory has room, as the queue is asked it
@@ -24,20 +25,6 @@ pub room-is : (width cap : ℕ) (t : Tables) (memory : Bool) → memory ≡ room
 unfolding memoryOf
 room-is width cap t memory h = h
 
--- the tests whose passing the proofs use
-record All (instant len counters : Bool) : Type 0 where
-  instant-passes : instant ≡ true
-  length-passes : len ≡ true
-  counters-pass : counters ≡ true
-
-all-pass : (memory instant len counters : Bool) → refusalOf memory instant len counters ≡ 0 → All instant len counters
-unfolding refusalOf
-all-pass false instant len counters h = absurd (omega (arith, h))
-all-pass true false len counters h = absurd (omega (arith, h))
-all-pass true true false counters h = absurd (omega (arith, h))
-all-pass true true true false h = absurd (omega (arith, h))
-all-pass true true true true h = record { instant-passes = refl; length-passes = refl; counters-pass = refl }
-
 pub record Passed (v : Device) (instant len : Bool) : Type 0 where
   pub instant-passes : instant ≡ true
   pub length-passes : len ≡ true
@@ -49,9 +36,10 @@ pub record Passed (v : Device) (instant len : Bool) : Type 0 where
 pub no-refusal : (v : Device) (memory instant len : Bool) → callRefusal v memory instant len ≡ 0 → Passed v instant len
 unfolding callRefusal inRange
 no-refusal v memory instant len h =
-    let all = all-pass memory instant len (inRange (v .engine) (v .accounts) (v .torn) (v .queue .«next_seq»)) h in
-    let seq = both-true _ (isCounterOf (v .queue .«next_seq»)) (all .counters-pass) in
+    let checks = deviceChecks memory instant len (inRange (v .engine) (v .accounts) (v .torn) (v .queue .«next_seq»)) in
+    let all = none-failing checks (λ z. omega (arith, z), (λ z. omega (arith, z), (λ z. omega (arith, z), (λ z. omega (arith, z), tt)))) h in
+    let seq = both-true _ (isCounterOf (v .queue .«next_seq»)) (all .1 .1 .1 .0) in
     let torn = both-true _ (isCounterOf (v .torn)) (seq .0) in
     let accounts = both-true (countersPass (v .engine)) (areCounters (accountantCounters (v .accounts))) (torn .0) in
     let stats = both-true (isCounterOf (v .engine .«rebinds_done»)) (areCounters (statsCounters (v .engine .stats))) (accounts .0) in
-    record { instant-passes = all .instant-passes; length-passes = all .length-passes; engine = accounts .0; stats = stats .1; accounts = accounts .1; torn = torn .1 }
+    record { instant-passes = all .1 .0; length-passes = all .1 .1 .0; engine = accounts .0; stats = stats .1; accounts = accounts .1; torn = torn .1 }

@@ -10,7 +10,7 @@ use Rattle.options.specs.declared.config.DirectionConfig.{DirectionConfig}
 use Rattle.engine.specs.Calls.{newEngineOf}
 use Rattle.engine.specs.Engine.{freshOf}
 use Rattle.engine.specs.declared.engine.ArrivalEngine.{ArrivalEngine}
-use Rattle.queue.specs.Calls.{fresh, createOf as queueOf}
+use Rattle.queue.specs.Calls.{smallestQueue, createOf as queueOf}
 use Rattle.queue.specs.Tables.{Tables}
 use Rattle.queue.specs.declared.answers.CreateAnswer.{CreateAnswer as QueueAnswer}
 use Rattle.queue.specs.declared.answers.CreateAnswer.the-variants as made
@@ -25,7 +25,7 @@ abbrev pub freshDevice : ArrivalEngine → ImpairQueue → Device
 freshDevice e q = record { engine = e; queue = q; accounts = noSends; torn = 0 }
 
 unfoldable pub notCreated : ℕ → Created
-notCreated k = record { device = freshDevice (freshOf defaultDirection 0) (fresh 1 0); answer = answer.Refused k }
+notCreated k = record { device = freshDevice (freshOf defaultDirection 0) smallestQueue; answer = answer.Refused k }
 
 -- 24, 23: the queue's
 unfoldable pub queuedBy : ArrivalEngine → QueueAnswer → ImpairQueue → Created

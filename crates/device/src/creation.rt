@@ -30,15 +30,8 @@ fn not_created(number: u32) -> Created
 {
     let changed = ArrivalEngine::new(DirectionConfig::default(), 0);
     let engine = changed.engine;
-    let queue = ImpairQueue {
-        cap: 1,
-        held: 0,
-        next_seq: 0,
-        leaves: 0,
-        opened: 0,
-    };
     Created {
-        device: fresh(engine, queue),
+        device: fresh(engine, ImpairQueue::smallest()),
         answer: CreateAnswer::Refused(number),
     }
 }

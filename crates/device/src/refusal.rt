@@ -1,7 +1,8 @@
 // Which refusal meets a call.
 ghost use mathlib.Core.Path.{_≡_};
 ghost use Rattle.machine.specs.Machine.{inRange};
-ghost use Rattle.device.specs.Refusals.{refusalOf, callRefusal};
+ghost use Rattle.numbers.specs.Checks.{firstFailing};
+ghost use Rattle.device.specs.Refusals.{deviceChecks, callRefusal};
 use crate::device::Device;
 use numbers::REFUSED_COUNTER;
 use numbers::REFUSED_INSTANT;
@@ -9,8 +10,8 @@ use numbers::REFUSED_LENGTH;
 use numbers::REFUSED_MEMORY;
 
 // The number of the first test that fails, in document 01's order, or 0.
-fn refusal(memory: bool, instant: bool, length: bool, counters: bool) -> u32
-    ensures { λ r. ⌜ r ≡ refusalOf memory instant length counters ⌝ }
+fn refusal(memory: bool, instant: bool, short: bool, counters: bool) -> u32
+    ensures { λ r. ⌜ r ≡ firstFailing (deviceChecks memory instant short counters) ⌝ }
 {
     if !memory {
         return REFUSED_MEMORY;
@@ -18,7 +19,7 @@ fn refusal(memory: bool, instant: bool, length: bool, counters: bool) -> u32
     if !instant {
         return REFUSED_INSTANT;
     }
-    if !length {
+    if !short {
         return REFUSED_LENGTH;
     }
     if !counters {
@@ -43,9 +44,9 @@ impl Device {
     }
 
     // The refusal that meets a call whose memory, instant and length pass or not, or 0.
-    pub(crate) fn call_refusal(self, memory: bool, instant: bool, length: bool) -> u32
-        ensures { λ r. ⌜ r ≡ callRefusal self memory instant length ⌝ }
+    pub(crate) fn call_refusal(self, memory: bool, instant: bool, short: bool) -> u32
+        ensures { λ r. ⌜ r ≡ callRefusal self memory instant short ⌝ }
     {
-        refusal(memory, instant, length, self.in_range())
+        refusal(memory, instant, short, self.in_range())
     }
 }

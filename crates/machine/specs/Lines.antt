@@ -4,6 +4,7 @@ use mathlib.Core.Bool.{true}
 use mathlib.Core.List.{List, [], _∷_}
 use lib.ListN.{length}
 use lib.Ieee.{add, sub, mul, div, neg, lt, le, isNan, ofInt}
+use Rattle.numbers.specs.Checks.{firstFailing}
 use Rattle.numbers.specs.Credit.{refilledOf, waitOf}
 use Rattle.numbers.specs.Extremes.{chosenOf}
 use Rattle.numbers.specs.Instant.{isInstantOf}
@@ -61,7 +62,7 @@ pub record OverflowLines : Type 0 where
   pub held : length (afterAll single one .held) ≡ 1
 
 overflow-lines : OverflowLines
-unfolding answers afterAll step arriveStep unless follow enterCopies enterCopy total inRange directionWith freshMachine freshOf nextRebindOf newRngOf noStats noSends noLatencies
+unfolding answers afterAll step arriveStep unless firstFailing follow enterCopies enterCopy total inRange directionWith freshMachine freshOf nextRebindOf newRngOf noStats noSends noLatencies
     isInstantOf isLengthOf isCounterOf statsCounters latenciesOf accountantCounters mixOf mix64Of withOverflow withOthers
     decidePassedOf afterOf countedOf countsOf oneIf scalarsOf stateOf gateAtOf gateOf killGateOf anyWindowOf
     arrivedOf passedOf fromGe fromMtu scheduledOf stoppedOf chanceOf burstLossOf exceedsOf chargedOf refilledOf bucketCapacityOf rateCapacityOf defaultBurstOf lastRefillOf

@@ -1,11 +1,12 @@
 -- What each call does, in document 01's order. "The machine refuses by 21, 22 and 25 only, judged on the arguments and its own state; a refused call answers
 -- the number and changes nothing."
-use mathlib.Core.Bool.{Bool, true, false, cond, not}
+use mathlib.Core.Bool.{Bool, true, false, cond}
 use mathlib.Core.List.{List, [], _∷_, _++_}
 use Prim.Native.Nat.{ℕ, _+_}
-use lib.Dec.{ltb}
+use lib.Dec.{ltb, eqb}
 use lib.Ieee.{Float, binary64, sub, le}
 use lib.ListN.{length}
+use Rattle.numbers.specs.Checks.{Check, check, firstFailing}
 use Rattle.numbers.specs.Instant.{isInstantOf}
 use Rattle.numbers.specs.Limits.{isLengthOf}
 use Rattle.numbers.specs.Refusals.{refusedInstant, refusedLength, refusedCounter}
@@ -29,13 +30,16 @@ stepTo a m = record { answer = a; then = m }
 
 -- ---- refusals: 21, 22, 25, those that apply
 
--- the number of the first test that fails, or else the step
+-- the tests of a call, each passed or not
+abbrev pub machineChecks : Machine → Bool → Bool → List Check
+machineChecks m instant short = check instant refusedInstant ∷ check short refusedLength ∷ check (inRange (m .engine) (m .accounts) (m .torn) (m .nextSeq)) refusedCounter ∷ []
+
+-- a refusal by that number, which changes nothing, or else the step where it is 0
+abbrev pub unlessRefused : Machine → ℕ → Step → Step
+unlessRefused m k s = cond (eqb k 0) s (stepTo (refused k) m)
+
 unfoldable pub unless : Machine → Bool → Bool → Step → Step
-unless m instant short s =
-    cond (not instant) (stepTo (refused refusedInstant) m)
-    (cond (not short) (stepTo (refused refusedLength) m)
-    (cond (not (inRange (m .engine) (m .accounts) (m .torn) (m .nextSeq))) (stepTo (refused refusedCounter) m)
-    s))
+unless m instant short s = unlessRefused m (firstFailing (machineChecks m instant short)) s
 
 -- ---- arrive(now, bytes, route)
 

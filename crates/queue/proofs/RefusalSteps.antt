@@ -7,13 +7,14 @@ use lib.Dec.{leb, eqb}
 use lib.Ieee.{Float, isNan, eq, ne}
 use lib.ListN.{length}
 use borrow.Author.Tests.{le-leb, lt-leb, leb-true, leb-false}
+use Rattle.numbers.specs.Checks.{firstFailing}
 use Rattle.numbers.specs.Instant.{isInstantOf}
 use Rattle.numbers.specs.Limits.{maxCapacity, isCounterOf}
 use Rattle.numbers.specs.Laws.Both.{both-true}
 use Rattle.numbers.specs.Laws.Kinds.{nan-differs}
 use Rattle.numbers.specs.Laws.Limits.{counter-below}
 use Rattle.queue.specs.Tables.{Tables}
-use Rattle.queue.specs.Refusals.{refusalOf, roomOf, memoryOf, inKeeping, pushRefusal, releaseRefusal}
+use Rattle.queue.specs.Refusals.{queueChecks, roomOf, memoryOf, inKeeping, pushRefusal, releaseRefusal}
 use Rattle.queue.specs.Room.{hasRoom, shortestOf}
 use Rattle.queue.specs.declared.queue.ImpairQueue.{ImpairQueue}
 
@@ -28,8 +29,8 @@ record All (len counter keeping : Bool) : Type 0 where
   counter-passes : counter ≡ true
   keeping-passes : keeping ≡ true
 
-all-pass : (memory instant len due counter keeping space : Bool) → refusalOf memory instant len due counter keeping space ≡ 0 → All len counter keeping
-unfolding refusalOf
+all-pass : (memory instant len due counter keeping space : Bool) → firstFailing (queueChecks memory instant len due counter keeping space) ≡ 0 → All len counter keeping
+unfolding firstFailing
 all-pass false instant len due counter keeping space h = absurd (omega (arith, h))
 all-pass true false len due counter keeping space h = absurd (omega (arith, h))
 all-pass true true false due counter keeping space h = absurd (omega (arith, h))

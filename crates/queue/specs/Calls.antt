@@ -38,9 +38,13 @@ queue c h n l o = record { cap = c; held = h; «next_seq» = n; leaves = l; open
 abbrev pub fresh : ℕ → ℕ → ImpairQueue
 fresh cap seq = queue cap 0 seq 0 0
 
--- a refused creation gives a queue of capacity 1
+-- an empty queue of capacity 1
+abbrev pub smallestQueue : ImpairQueue
+smallestQueue = fresh 1 0
+
+-- a refused creation gives it
 abbrev pub notCreated : ℕ → Created
-notCreated k = record { queue = fresh 1 0; answer = create.Refused k }
+notCreated k = record { queue = smallestQueue; answer = create.Refused k }
 
 -- "Capacity is 1 to 1,048,576 copies": 24, then 23
 unfoldable pub createOf : ℕ → ℕ → Tables → Created

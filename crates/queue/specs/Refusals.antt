@@ -1,9 +1,11 @@
 -- "Order: .. creation 29, 24, 23; calls 23, 29, 21, 22, 27, 25, 28, those that apply": 29 is not the queue's. 26 stands where what is found is out of keeping.
-use mathlib.Core.Bool.{Bool, true, cond, not, _&&_}
+use mathlib.Core.Bool.{Bool, true, not, _&&_}
+use mathlib.Core.List.{List, [], _∷_}
 use Prim.Native.Nat.{ℕ, _*_}
 use lib.Dec.{leb, eqb}
 use lib.Ieee.{Float, isNan}
 use lib.ListN.{length}
+use Rattle.numbers.specs.Checks.{Check, check, firstFailing}
 use Rattle.numbers.specs.Instant.{isInstantOf}
 use Rattle.numbers.specs.Limits.{maxCapacity, isCounterOf}
 use Rattle.numbers.specs.Refusals.{refusedInstant, refusedLength, refusedMemory, refusedCounter, refusedKeeping, refusedDue, refusedFull}
@@ -14,16 +16,11 @@ use Rattle.queue.specs.declared.queue.ImpairQueue.{ImpairQueue}
 abbrev pub slotWidth : ℕ
 slotWidth = 2048
 
--- the number of the first test that fails, or 0
-unfoldable pub refusalOf : Bool → Bool → Bool → Bool → Bool → Bool → Bool → ℕ
-refusalOf memory instant len due counter keeping space =
-    cond (not memory) refusedMemory
-    (cond (not instant) refusedInstant
-    (cond (not len) refusedLength
-    (cond (not due) refusedDue
-    (cond (not counter) refusedCounter
-    (cond (not keeping) refusedKeeping
-    (cond (not space) refusedFull 0))))))
+-- the tests of a call, each passed or not
+abbrev pub queueChecks : Bool → Bool → Bool → Bool → Bool → Bool → Bool → List Check
+queueChecks memory instant short due counter keeping space =
+    check memory refusedMemory ∷ check instant refusedInstant ∷ check short refusedLength ∷ check due refusedDue ∷ check counter refusedCounter
+    ∷ check keeping refusedKeeping ∷ check space refusedFull ∷ []
 
 -- "The lent store has at least capacity × 2,048 bytes, and every other lent table at least capacity entries"
 unfoldable pub roomOf : ℕ → ℕ → ℕ → ℕ → ℕ → ℕ → ℕ → ℕ → ℕ → ℕ → ℕ → Bool
@@ -42,15 +39,15 @@ inKeeping q = leb (q .cap) maxCapacity && leb (q .leaves) (q .cap) && leb (q .op
 -- 23, 21 (the arrival), 22, 27, 25, 26, 28
 unfoldable pub pushRefusal : ℕ → ImpairQueue → Bool → Float → Float → ℕ → ℕ
 pushRefusal width q memory due arrival len =
-    refusalOf memory (isInstantOf arrival) (leb len width) (not (isNan due)) (isCounterOf (q .«next_seq»)) (inKeeping q) (not (eqb (q .held) (q .cap)))
+    firstFailing (queueChecks memory (isInstantOf arrival) (leb len width) (not (isNan due)) (isCounterOf (q .«next_seq»)) (inKeeping q) (not (eqb (q .held) (q .cap))))
 
 -- 23, 21, 25, 26
 unfoldable pub releaseRefusal : ImpairQueue → Bool → Float → ℕ
-releaseRefusal q memory now = refusalOf memory (isInstantOf now) true true (isCounterOf (q .«next_seq»)) (inKeeping q) true
+releaseRefusal q memory now = firstFailing (queueChecks memory (isInstantOf now) true true (isCounterOf (q .«next_seq»)) (inKeeping q) true)
 
 -- 23, 25, 26
 unfoldable pub stateRefusal : ImpairQueue → Bool → ℕ
-stateRefusal q memory = refusalOf memory true true true (isCounterOf (q .«next_seq»)) (inKeeping q) true
+stateRefusal q memory = firstFailing (queueChecks memory true true true (isCounterOf (q .«next_seq»)) (inKeeping q) true)
 
 -- the same for `next_due`, which reads two tables
 unfoldable pub dueRefusal : ImpairQueue → ℕ → ℕ → ℕ

@@ -2,7 +2,7 @@
 ghost use mathlib.Core.Path.{_≡_};
 ghost use Rattle.queue.specs.Tables.{tables};
 ghost use Rattle.queue.specs.Refusals.{slotWidth};
-ghost use Rattle.queue.specs.Calls.{fresh, notCreated, createOf, drainOf};
+ghost use Rattle.queue.specs.Calls.{fresh, smallestQueue, notCreated, createOf, drainOf};
 use crate::answers::CreateAnswer;
 use crate::answers::Created;
 use crate::answers::DrainAnswer;
@@ -31,12 +31,19 @@ fn not_created(number: u32) -> Created
     ensures { λ r. ⌜ r ≡ notCreated number ⌝ }
 {
     Created {
-        queue: empty(1, 0),
+        queue: ImpairQueue::smallest(),
         answer: CreateAnswer::Refused(number),
     }
 }
 
 impl ImpairQueue {
+    // An empty queue of capacity 1: what a refused creation gives.
+    pub fn smallest() -> ImpairQueue
+        ensures { λ r. ⌜ r ≡ smallestQueue ⌝ }
+    {
+        empty(1, 0)
+    }
+
     // A queue over the lent tables and store, or a refusal by 24 or 23.
     pub fn create(
         cap: usize,

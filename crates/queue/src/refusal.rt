@@ -1,7 +1,8 @@
 // Which refusal meets a call.
 ghost use mathlib.Core.Path.{_≡_};
 ghost use Prim.Native.Nat.{min};
-ghost use Rattle.queue.specs.Refusals.{refusalOf, slotWidth, roomOf, inKeeping, stateRefusal};
+ghost use Rattle.numbers.specs.Checks.{firstFailing};
+ghost use Rattle.queue.specs.Refusals.{queueChecks, slotWidth, roomOf, inKeeping, stateRefusal};
 ghost use Rattle.queue.specs.Room.{hasRoom, shortestOf};
 use crate::queue::ImpairQueue;
 use crate::store::SLOT_WIDTH;
@@ -18,13 +19,13 @@ use numbers::REFUSED_MEMORY;
 pub(crate) fn refusal(
     memory: bool,
     instant: bool,
-    length: bool,
+    short: bool,
     due: bool,
     counter: bool,
     keeping: bool,
     space: bool,
 ) -> u32
-    ensures { λ r. ⌜ r ≡ refusalOf memory instant length due counter keeping space ⌝ }
+    ensures { λ r. ⌜ r ≡ firstFailing (queueChecks memory instant short due counter keeping space) ⌝ }
 {
     if !memory {
         return REFUSED_MEMORY;
@@ -32,7 +33,7 @@ pub(crate) fn refusal(
     if !instant {
         return REFUSED_INSTANT;
     }
-    if !length {
+    if !short {
         return REFUSED_LENGTH;
     }
     if !due {

@@ -1,10 +1,11 @@
 -- What it is for a call to agree with a step of the plain machine, and that every refused call does.
 use mathlib.Core.Path.{_≡_, refl, sym, subst}
-use mathlib.Core.Bool.{Bool, true, false, cond, not}
-use mathlib.Core.List.{[]}
+use mathlib.Core.Bool.{Bool, true, false, cond}
+use mathlib.Core.List.{[], _∷_}
 use Prim.Native.Nat.{ℕ}
 use lib.Dec.{eqb}
 use lib.ListN.{length}
+use Rattle.numbers.specs.Checks.{check, firstFailing}
 use Rattle.numbers.specs.Laws.Both.{both-true}
 use Rattle.numbers.specs.Limits.{isCounterOf}
 use Rattle.numbers.specs.Refusals.{refusedInstant, refusedLength, refusedCounter}
@@ -21,8 +22,8 @@ use Rattle.queue_laws.specs.Laws.Keeps.{Keeps}
 use Rattle.queue_laws.specs.Replies.{saidByDrain}
 use Rattle.machine.specs.Calls.{Answer, refused}
 use Rattle.machine.specs.Machine.{Machine, inRange}
-use Rattle.machine.specs.Steps.{Step, stepTo, unless}
-use Rattle.device.specs.Refusals.{refusalOf, callRefusal}
+use Rattle.machine.specs.Steps.{Step, stepTo, unlessRefused, unless}
+use Rattle.device.specs.Refusals.{deviceChecks, callRefusal}
 use Rattle.device.specs.declared.device.Device.{Device}
 use Rattle.claim.specs.Laws.Matches.{AllShort, Matches}
 
@@ -55,9 +56,9 @@ parts-match m q t keeps sound short = record { engine = refl; accounts = refl; t
 -- ---- refusals
 
 -- what a call that is not refused has passed
-pub record Passed (m : Machine) (instant length : Bool) : Type 0 where
+pub record Passed (m : Machine) (instant short : Bool) : Type 0 where
   pub instant-passes : instant ≡ true
-  pub length-passes : length ≡ true
+  pub length-passes : short ≡ true
   pub engine : countersPass (m .engine) ≡ true
   pub accounts : areCounters (accountantCounters (m .accounts)) ≡ true
   pub torn : isCounterOf (m .torn) ≡ true
@@ -73,23 +74,23 @@ range-passed m h =
 
 -- a call that is refused as the machine refuses, and else does what a step does
 module _ {A : Type 0} (P : A → Step → Type 0) (m : Machine) (done : A) (no : ℕ → A) (s : Step) (refuses : (n : ℕ) → P (no n) (stepTo (refused n) m)) where
-  by-tests : (instant length counters : Bool) → inRange (m .engine) (m .accounts) (m .torn) (m .nextSeq) ≡ counters
-      → (Passed m instant length → P done s)
-      → P (cond (eqb (refusalOf true instant length counters) 0) done (no (refusalOf true instant length counters)))
-      (cond (not instant) (stepTo (refused refusedInstant) m) (cond (not length) (stepTo (refused refusedLength) m) (cond (not counters) (stepTo (refused refusedCounter) m) s)))
-  unfolding refusalOf
-  by-tests false length counters e h = refuses refusedInstant
+  by-tests : (instant short counters : Bool) → inRange (m .engine) (m .accounts) (m .torn) (m .nextSeq) ≡ counters
+      → (Passed m instant short → P done s)
+      → P (cond (eqb (firstFailing (deviceChecks true instant short counters)) 0) done (no (firstFailing (deviceChecks true instant short counters))))
+      (unlessRefused m (firstFailing (check instant refusedInstant ∷ check short refusedLength ∷ check counters refusedCounter ∷ [])) s)
+  unfolding firstFailing
+  by-tests false short counters e h = refuses refusedInstant
   by-tests true false counters e h = refuses refusedLength
   by-tests true true false e h = refuses refusedCounter
   by-tests true true true e h = h (range-passed m e)
 
   -- for the device of the machine's parts and a queue with the machine's next seq
-  pub by-refusal : (q : ImpairQueue) → q .«next_seq» ≡ m .nextSeq → (memory instant length : Bool) → memory ≡ true
-      → (Passed m instant length → P done s)
-      → P (cond (eqb (callRefusal (deviceOf m q) memory instant length) 0) done (no (callRefusal (deviceOf m q) memory instant length))) (unless m instant length s)
+  pub by-refusal : (q : ImpairQueue) → q .«next_seq» ≡ m .nextSeq → (memory instant short : Bool) → memory ≡ true
+      → (Passed m instant short → P done s)
+      → P (cond (eqb (callRefusal (deviceOf m q) memory instant short) 0) done (no (callRefusal (deviceOf m q) memory instant short))) (unless m instant short s)
   unfolding callRefusal unless
-  by-refusal q same memory instant length holds h =
-      rw (same, holds) (by-tests instant length (inRange (m .engine) (m .accounts) (m .torn) (m .nextSeq)) refl h)
+  by-refusal q same memory instant short holds h =
+      rw (same, holds) (by-tests instant short (inRange (m .engine) (m .accounts) (m .torn) (m .nextSeq)) refl h)
 
 -- ---- drains
 

@@ -1,11 +1,12 @@
 -- A machine whose copies have lost their bytes and routes answers calls that have lost theirs as the machine answers the calls: nothing else looks at them.
 use mathlib.Core.Path.{_≡_, refl, ap, _∙_}
-use mathlib.Core.Bool.{Bool, true, false, cond, not}
+use mathlib.Core.Bool.{Bool, true, false, cond}
 use mathlib.Core.List.{List, [], _∷_, _++_, map}
 use Prim.Native.Nat.{ℕ, suc, _+_}
 use lib.Dec.{ltb, eqb}
 use lib.Ieee.{Float, le}
 use lib.ListN.{length}
+use Rattle.numbers.specs.Checks.{firstFailing}
 use Rattle.numbers.specs.Instant.{isInstantOf}
 use Rattle.numbers.specs.Limits.{isLengthOf}
 use Rattle.steps.specs.declared.decision.Decision.{Decision}
@@ -14,7 +15,7 @@ use Rattle.held.specs.Order.{beforeOf}
 use Rattle.held.specs.Copies.{Copy, least, without, dueBy, Leaving, noCopy, oneCopy, leastIn, leaving}
 use Rattle.machine.specs.Machine.{Machine, machine, Creation, freshMachine, inRange}
 use Rattle.machine.specs.Calls.{Call, arrive, release, rebind, teardown, report, Answer}
-use Rattle.machine.specs.Steps.{Step, stepTo, unless, Entry, entry, enterCopy, enterCopies, withCopy, entersAs, follow, arriveStep, handOut, releaseStep, rebindStep, teardownStep, reportStep, step, answers}
+use Rattle.machine.specs.Steps.{Step, stepTo, machineChecks, unless, Entry, entry, enterCopy, enterCopies, withCopy, entersAs, follow, arriveStep, handOut, releaseStep, rebindStep, teardownStep, reportStep, step, answers}
 use Rattle.machine.specs.Bare.{blank, bareCall, bareCopy, bareAnswer, bareCalls, bareAnswers}
 
 abbrev pub bareMachine : Machine → Machine
@@ -80,7 +81,7 @@ bare-without seq (c ∷ l) = either (map bareCopy) (eqb (c .seq) seq) (bare-with
 
 bare-unless : (m : Machine) (instant short : Bool) (s : Step) → bareStep (unless m instant short s) ≡ unless (bareMachine m) instant short (bareStep s)
 unfolding unless
-bare-unless m i l s = either bareStep (not i) refl (either bareStep (not l) refl (either bareStep (not (inRange (m .engine) (m .accounts) (m .torn) (m .nextSeq))) refl refl))
+bare-unless m i l s = either bareStep (eqb (firstFailing (machineChecks m i l)) 0) refl refl
 
 bare-copy : (m : Machine) (due now : Float) (route id : ℕ) (bytes : List ℕ) → bareMachine (withCopy m due now route id bytes) ≡ withCopy (bareMachine m) due now 0 id (blank bytes)
 bare-copy m due now route id bytes = cc (held-last (m .held) _, blank-length bytes)

@@ -1,11 +1,12 @@
 -- What a step of each call can be, once for all laws.
 use mathlib.Core.Path.{_≡_, refl}
 use mathlib.Core.Logic.{inl, inr}
-use mathlib.Core.Bool.{Bool, true, false, not}
-use mathlib.Core.List.{List}
+use mathlib.Core.Bool.{Bool, true, false}
+use mathlib.Core.List.{List, [], _∷_}
 use Prim.Native.Nat.{ℕ}
 use lib.Ieee.{Float, le}
 use lib.ListN.{length}
+use Rattle.numbers.specs.Checks.{check, firstFailing}
 use Rattle.numbers.specs.Instant.{isInstantOf}
 use Rattle.numbers.specs.Laws.NotNan.{cond-has}
 use Rattle.numbers.specs.Limits.{isLengthOf}
@@ -17,7 +18,7 @@ use Rattle.held.specs.Copies.{Copy, Mem, Leaving, noCopy, oneCopy, leaving}
 use Rattle.held.specs.Laws.Due.{leaving-mem}
 use Rattle.machine.specs.Machine.{Machine, inRange}
 use Rattle.machine.specs.Calls.{Call, arrive, release, rebind, teardown, report, Refusal, released, noneDue, rebound, toreDown, reported, refused}
-use Rattle.machine.specs.Steps.{Step, stepTo, unless, withEngine, Entry, entry, enterCopy, enterCopies, tear, follow, arriveStep, leave, handOut, releaseStep, rebindStep, teardownStep, reportStep, step}
+use Rattle.machine.specs.Steps.{Step, stepTo, unlessRefused, unless, withEngine, Entry, entry, enterCopy, enterCopies, tear, follow, arriveStep, leave, handOut, releaseStep, rebindStep, teardownStep, reportStep, step}
 
 -- the steps of each call: it may be refused, and a release or a rebind may find nothing to do
 pub data Does (m : Machine) : Call → Step → Type 0 where
@@ -32,11 +33,16 @@ pub data Does (m : Machine) : Call → Step → Type 0 where
   reports : Does m report (stepTo (reported (mergedOf (m .accounts) (m .engine .stats)) (length (m .held)) (m .torn)) m)
 
 -- a refused step, or else the one that was meant, and then the instant and the length have passed
+in-range-does : (m : Machine) (c : Call) (b : Bool) {s : Step} → Does m c s → Does m c (unlessRefused m (firstFailing (check b refusedCounter ∷ [])) s)
+unfolding firstFailing
+in-range-does m c true d = d
+in-range-does m c false d = refuses c refusedCounter (inr (inr refl))
+
 unless-does : (m : Machine) (c : Call) (instant short : Bool) {s : Step} → (instant ≡ true → short ≡ true → Does m c s) → Does m c (unless m instant short s)
-unfolding unless
+unfolding unless firstFailing
 unless-does m c false l d = refuses c refusedInstant (inl refl)
 unless-does m c true false d = refuses c refusedLength (inr (inl refl))
-unless-does m c true true d = cond-has (Does m c) (not (inRange (m .engine) (m .accounts) (m .torn) (m .nextSeq))) (refuses c refusedCounter (inr (inr refl))) (d refl refl)
+unless-does m c true true d = in-range-does m c (inRange (m .engine) (m .accounts) (m .torn) (m .nextSeq)) (d refl refl)
 
 hand-does : (m : Machine) (now : Float) (x : Leaving) → leaving now (m .held) ≡ x → Does m (release now) (handOut m now x)
 unfolding handOut

@@ -9,6 +9,7 @@ use lib.Dec.{leb, eqb}
 use lib.Ieee.{Float, le, isNan}
 use lib.ListN.{length, getD}
 use borrow.Author.Tests.{le-leb, lt-leb, ne-eqb, leb-true, eqb-false, not-true}
+use Rattle.numbers.specs.Checks.{firstFailing}
 use Rattle.numbers.specs.Instant.{isInstantOf}
 use Rattle.numbers.specs.Laws.Both.{both, both-true}
 use Rattle.numbers.specs.Laws.Limits.{counter-below}
@@ -19,7 +20,7 @@ use Rattle.held.specs.Copies.{Copy, dueBy, leastIn, Leaving, leaving}
 use Rattle.held.specs.Laws.Due.{ifDue, least-due}
 use Rattle.tournament.specs.Calls.{leastOf}
 use Rattle.queue.specs.Tables.{Tables, After, after}
-use Rattle.queue.specs.Refusals.{memoryOf, inKeeping, refusalOf, pushRefusal, releaseRefusal, stateRefusal, dueRefusal}
+use Rattle.queue.specs.Refusals.{memoryOf, inKeeping, queueChecks, pushRefusal, releaseRefusal, stateRefusal, dueRefusal}
 use Rattle.queue.specs.Calls.{notPushed, AfterCopy, enterCopyOf, toldOf, told, againOf, secondOf, enterCopiesOf, pushOf, notReleased, leftOf, dueOf, releaseOf, drainOf, dueAt, nextDueOf, lenOf, isEmptyOf}
 use Rattle.queue.specs.declared.queue.ImpairQueue.{ImpairQueue}
 use Rattle.queue.specs.declared.answers.Released.{Released}
@@ -83,15 +84,15 @@ module _ (width : ℕ) (t : Tables) (q : ImpairQueue) (p : Plain) (k : Keeps wid
   same-counter = rw (k .same-next)
 
   push-tests : (due arrival : Float) (len : ℕ) → pushRefusal width q (memoryOf width (q .cap) t) due arrival len
-      ≡ refusalOf true (isInstantOf arrival) (leb len width) (not (isNan due)) (isCounterOf (p .nextSeq)) true (not (isFull p))
+      ≡ firstFailing (queueChecks true (isInstantOf arrival) (leb len width) (not (isNan due)) (isCounterOf (p .nextSeq)) true (not (isFull p)))
   unfolding pushRefusal
   push-tests due arrival len = rw (memory-holds, keeping-holds, same-full width t q p k, same-counter)
 
-  release-tests : (now : Float) → releaseRefusal q (memoryOf width (q .cap) t) now ≡ refusalOf true (isInstantOf now) true true (isCounterOf (p .nextSeq)) true true
+  release-tests : (now : Float) → releaseRefusal q (memoryOf width (q .cap) t) now ≡ firstFailing (queueChecks true (isInstantOf now) true true (isCounterOf (p .nextSeq)) true true)
   unfolding releaseRefusal
   release-tests now = rw (memory-holds, keeping-holds, same-counter)
 
-  state-tests : stateRefusal q true ≡ refusalOf true true true true (isCounterOf (p .nextSeq)) true true
+  state-tests : stateRefusal q true ≡ firstFailing (queueChecks true true true true (isCounterOf (p .nextSeq)) true true)
   unfolding stateRefusal
   state-tests = rw (keeping-holds, same-counter)
 
@@ -123,7 +124,7 @@ module _ (width : ℕ) (t : Tables) (q : ImpairQueue) (p : Plain) (k : Keeps wid
 
     -- a push, on any arguments
     pub push-agrees : Agree width (saidByPush (pushOf width q t due arrival route id duplicated bytes)) (pushPlain width p due arrival route id duplicated bytes)
-    unfolding pushPlain refusalOf
+    unfolding pushPlain firstFailing
     push-agrees = go (isInstantOf arrival) refl (leb (length bytes) width) refl (isNan due) refl (isCounterOf (p .nextSeq)) refl (isFull p) refl
       where
         go : (a : Bool) → isInstantOf arrival ≡ a → (b : Bool) → leb (length bytes) width ≡ b → (c : Bool) → isNan due ≡ c → (d : Bool) → isCounterOf (p .nextSeq) ≡ d → (e : Bool) → isFull p ≡ e
@@ -170,7 +171,7 @@ module _ (width : ℕ) (t : Tables) (q : ImpairQueue) (p : Plain) (k : Keeps wid
 
     -- a release, at any instant
     pub release-agrees : Agree width (saidByRelease width (releaseOf width q t now)) (releasePlain p now)
-    unfolding releasePlain handOut leaving dueBy leastIn refusalOf leftOf
+    unfolding releasePlain handOut leaving dueBy leastIn firstFailing leftOf
     release-agrees = go (isInstantOf now) refl (isCounterOf (p .nextSeq)) refl (p .held) refl
       where
         -- the least of all, if it is due
@@ -194,7 +195,7 @@ module _ (width : ℕ) (t : Tables) (q : ImpairQueue) (p : Plain) (k : Keeps wid
   -- ---- drain
 
   pub drain-agrees : Agree width (saidByDrain t (drainOf q)) (drainPlain p)
-  unfolding drainOf drainPlain refusalOf
+  unfolding drainOf drainPlain firstFailing
   drain-agrees = go (isCounterOf (p .nextSeq)) refl
     where
       go : (b : Bool) → isCounterOf (p .nextSeq) ≡ b → Agree width (saidByDrain t (drainOf q)) (drainPlain p)
@@ -203,13 +204,13 @@ module _ (width : ℕ) (t : Tables) (q : ImpairQueue) (p : Plain) (k : Keeps wid
 
   -- ---- questions
 
-  due-tests : dueRefusal q (length (t .win)) (length (t .dues)) ≡ refusalOf true true true true (isCounterOf (p .nextSeq)) true true
+  due-tests : dueRefusal q (length (t .win)) (length (t .dues)) ≡ firstFailing (queueChecks true true true true (isCounterOf (p .nextSeq)) true true)
   unfolding dueRefusal
   due-tests = rw (le-leb (q .cap) (length (t .win)) (k .long .win), le-leb (q .cap) (length (t .dues)) (k .long .dues)) state-tests
 
   -- the least due that is held
   pub due-agrees : nextDueOf q (t .win) (t .dues) ≡ nextDuePlain p
-  unfolding nextDueOf nextDuePlain leastDue dueAt refusalOf
+  unfolding nextDueOf nextDuePlain leastDue dueAt firstFailing
   due-agrees = go (isCounterOf (p .nextSeq)) refl (p .held) refl
     where
       go : (b : Bool) → isCounterOf (p .nextSeq) ≡ b → (h : List Copy) → p .held ≡ h → nextDueOf q (t .win) (t .dues) ≡ nextDuePlain p

@@ -10,11 +10,14 @@ default-requires c κs = search needs
 new-requires : tie.Need-new-requires
 new-requires c κs = search needs
 
+smallest-requires : tie.Need-smallest-requires
+smallest-requires c κs = search needs
+
 fresh-requires : tie.Need-fresh-requires
 fresh-requires c κs = search needs
 
 returns : tie.Need-returns
-returns c = not-created-is _ _ _ _ (c .before .before .before .default .ensures) (c .before .before .new .ensures) (c .fresh .ensures)
+returns c = not-created-is _ _ _ _ _ (c .before .before .before .before .default .ensures) (c .before .before .before .new .ensures) (c .before .smallest .ensures) (c .fresh .ensures)
 
 pub not-created-spec : {M : Type 1} → statement M
-not-created-spec = tie.close (tie.spec default-requires new-requires fresh-requires returns)
+not-created-spec = tie.close (tie.spec default-requires new-requires smallest-requires fresh-requires returns)

@@ -1,14 +1,14 @@
--- The empty queue by its contract.
+-- The queue by its contract.
 use Rattle.queue.specs.declared.answers.CreateAnswer.the-variants as create
 use borrow.Author.Needs.{needs}
 use Rattle.queue.proofs.creation.not_created.Statement.{statement}
 use Rattle.queue.proofs.creation.not_created.Tie as tie
 
-empty-requires : tie.Need-empty-requires
-empty-requires c κs = search needs
+smallest-requires : tie.Need-smallest-requires
+smallest-requires c κs = search needs
 
 returns : tie.Need-returns
-returns c = λ i. record { queue = c .empty .ensures i; answer = create.Refused (c .before .args .number) }
+returns c = λ i. record { queue = c .smallest .ensures i; answer = create.Refused (c .before .args .number) }
 
 pub not-created-spec : {M : Type 1} → statement M
-not-created-spec = tie.close (tie.spec empty-requires returns)
+not-created-spec = tie.close (tie.spec smallest-requires returns)
