@@ -28,7 +28,7 @@ unfoldable pub copiesIn : PushAnswer → ℕ
 copiesIn (push.Entered seq copies) = copies
 copiesIn (push.Refused k) = 0
 
--- "each enters with the next seq, or the engine's overflow + 1"; any other refusal than 28 means that state or memory was altered: 26
+-- a copy that did not enter has overflowed; any other refusal than 28 means that state or memory was altered: 26
 unfoldable pub talliedBy : PushAnswer → ImpairQueue → ℕ → Admitted
 talliedBy (push.Entered seq copies) q asked = admitted q copies (asked - copies) 0 0 0
 talliedBy (push.Refused k) q asked = cond (eqb k refusedFull) (admitted q 0 asked 0 0 0) (admitted q 0 0 0 0 refusedKeeping)

@@ -121,6 +121,7 @@ impl Turns {
             self.now_ms,
             draw,
             0,
+            false,
             bytes,
         );
         let after = pushed.queue;

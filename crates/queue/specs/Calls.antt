@@ -94,11 +94,11 @@ toldOf e seq copies = cond (e .fits) (record { queue = e .queue; answer = push.E
 abbrev pub told : ℕ → ℕ → AfterCopy → After Pushed
 told seq copies o = after (toldOf (o .gives) seq copies) (o .memory)
 
--- whether a second copy enters behind the first: "A full queue refuses and uses no seq"
+-- whether a second copy enters behind the first: the packet is duplicated, and the queue is not full by then
 abbrev pub againOf : Bool → CopyEntered → Bool
 againOf duplicated e = e .fits && duplicated && not (eqb (e .queue .held) (e .queue .cap))
 
--- what follows the first copy: "id 1 if duplicated, same due"
+-- what follows the first copy: of a packet that is duplicated a second one, with copy id 1 and the same due
 unfoldable pub secondOf : ℕ → ℕ → Float → Float → ℕ → Bool → List ℕ → AfterCopy → After Pushed
 secondOf width seq due arrival route duplicated bytes o =
     cond (againOf duplicated (o .gives)) (told seq 2 (enterCopyOf width (o .gives .queue) (o .memory) due arrival route 1 bytes)) (told seq 1 o)

@@ -129,6 +129,7 @@ fn push(
         copy.arrival_ms,
         copy.route,
         copy.copy_id,
+        false,
         bytes,
     );
     let after = pushed.queue;

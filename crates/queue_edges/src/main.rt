@@ -15,6 +15,7 @@ mod scatter;
 mod seqs_end;
 mod states;
 mod tally;
+mod twice;
 
 fn main() {
     creations::capacities();
@@ -26,6 +27,7 @@ fn main() {
     limits::copies();
     limits::counters();
     seqs_end::run();
+    twice::pushes();
     parts::ends();
     parts::many();
     altered::run();

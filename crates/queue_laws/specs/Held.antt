@@ -49,7 +49,7 @@ isFull p = eqb (length (p .held)) (p .cap)
 abbrev pub withCopy : Plain → Float → Float → ℕ → ℕ → List ℕ → Plain
 withCopy p due arrival route id bytes = plain (p .cap) (p .held ++ (copy due (p .nextSeq) arrival route id (length bytes) bytes ∷ [])) (p .nextSeq + 1)
 
--- what follows a first copy with that seq: a second one, "id 1 if duplicated, same due", unless the queue is full by then
+-- what follows a first copy with that seq: of a packet that is duplicated a second one, with copy id 1 and the same due, unless the queue is full by then
 unfoldable pub secondPlain : ℕ → Plain → Float → Float → ℕ → Bool → List ℕ → Step
 secondPlain seq p due arrival route duplicated bytes =
     cond (duplicated && not (isFull p)) (stepTo (entered seq 2) (withCopy p due arrival route 1 bytes)) (stepTo (entered seq 1) p)
