@@ -1,9 +1,16 @@
 // The script, answered line by line to its end.
 use crate::calls;
+use crate::requests;
 use crate::state::State;
 use script::Source;
+use script::answers;
 
-pub fn run(out: &mut [u8], chunk: &mut [u8], kept: &mut [u8], spare: &mut [u8], text: &mut [u8]) {
+pub fn run(
+    out: &mut [u8; 65536],
+    chunk: &mut [u8; 65536],
+    kept: &mut [u8; 65536],
+    text: &mut [u8; 32768],
+) {
     let mut source = Source::new();
     let mut state = State::new();
     let mut turns = u64::MAX;
@@ -11,7 +18,9 @@ pub fn run(out: &mut [u8], chunk: &mut [u8], kept: &mut [u8], spare: &mut [u8], 
         let read = source.next(chunk, kept);
         source = read.source;
         let event = read.event;
-        state = calls::answer(out, state, event, kept, spare, text);
+        let request = requests::request_at(event, kept, text);
+        state = calls::answer(out, state, request, text);
+        state.at = answers::ended(out, state.at, event);
         turns = script::turns_after(turns, event);
     }
 }

@@ -10,12 +10,11 @@ mod stats_line;
 mod timed_lines;
 mod words;
 
-// The buffers are lent from here: those for option texts are above the 16,384 bytes that a text may have.
+// The buffers are lent from here: that for option texts is above the 16,384 bytes that a text may have.
 fn main() {
     let mut chunk = io::large_buffer();
     let mut kept = io::large_buffer();
-    let mut spare = [0u8; 32768];
     let mut text = [0u8; 32768];
     let mut out = io::large_buffer();
-    input::run(&mut out, &mut chunk, &mut kept, &mut spare, &mut text);
+    input::run(&mut out, &mut chunk, &mut kept, &mut text);
 }

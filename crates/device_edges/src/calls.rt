@@ -1,5 +1,6 @@
-// The two calls that have memory, over the memory of a host. Each prints its answer.
+// The calls over the memory of a host. Each prints its answer.
 ghost use Prim.Native.Nat.{_≤_};
+use crate::asked::Asked;
 use crate::memory::Memory;
 use crate::words;
 use device::Device;
@@ -11,6 +12,16 @@ pub struct Called {
     pub number: u32,
 }
 
+// The call of a step: a arrive, r release, b rebind, and else teardown.
+pub fn made(memory: Memory, device: Device, asked: Asked, step: u8) -> Called {
+    match step {
+        b'a' => arrive(memory, device, asked),
+        b'r' => release(memory, device, asked),
+        b'b' => rebind(memory, device, asked.now_ms),
+        _ => teardown(memory, device),
+    }
+}
+
 // How many bytes of the store are lent: all but one where it is short.
 pub fn store_end(short: bool) -> usize
     ensures { λ r. ⌜ r ≤ 4096 ⌝ }
@@ -18,8 +29,8 @@ pub fn store_end(short: bool) -> usize
     if short { 4095 } else { 4096 }
 }
 
-// A packet of n bytes arrives, each the letter a; its route is 7.
-pub fn arrive(memory: Memory, device: Device, short: bool, now_ms: f64, n: usize) -> Called {
+// A packet arrives, whose bytes are each the letter a; its route is 7.
+fn arrive(memory: Memory, device: Device, asked: Asked) -> Called {
     let mut win = memory.win;
     let free = memory.free;
     let mut dues = memory.dues;
@@ -30,7 +41,7 @@ pub fn arrive(memory: Memory, device: Device, short: bool, now_ms: f64, n: usize
     let mut lengths = memory.lengths;
     let mut store = memory.store;
     let bytes = [b'a'; 2049];
-    let end = store_end(short);
+    let end = store_end(asked.short);
     let arrived = device.arrive(
         &mut win,
         &free,
@@ -41,8 +52,8 @@ pub fn arrive(memory: Memory, device: Device, short: bool, now_ms: f64, n: usize
         &mut ids,
         &mut lengths,
         &mut store[..end],
-        now_ms,
-        values::front(&bytes, n),
+        asked.now_ms,
+        values::front(&bytes, asked.length),
         7,
     );
     let after = arrived.device;
@@ -65,7 +76,7 @@ pub fn arrive(memory: Memory, device: Device, short: bool, now_ms: f64, n: usize
     }
 }
 
-pub fn release(mut memory: Memory, device: Device, short: bool, now_ms: f64) -> Called {
+fn release(mut memory: Memory, device: Device, asked: Asked) -> Called {
     let mut win = memory.win;
     let mut free = memory.free;
     let mut dues = memory.dues;
@@ -84,8 +95,8 @@ pub fn release(mut memory: Memory, device: Device, short: bool, now_ms: f64) -> 
         &routes,
         &ids,
         &lengths,
-        values::front(&store, store_end(short)),
-        now_ms,
+        values::front(&store, store_end(asked.short)),
+        asked.now_ms,
     );
     let after = released.device;
     let answer = released.answer;
@@ -97,5 +108,27 @@ pub fn release(mut memory: Memory, device: Device, short: bool, now_ms: f64) -> 
         memory,
         device: after,
         number: words::released(answer, &store),
+    }
+}
+
+fn rebind(memory: Memory, device: Device, now_ms: f64) -> Called {
+    let rebound = device.rebind(now_ms);
+    let after = rebound.device;
+    let answer = rebound.answer;
+    Called {
+        memory,
+        device: after,
+        number: words::rebound(answer),
+    }
+}
+
+fn teardown(memory: Memory, device: Device) -> Called {
+    let torn = device.teardown();
+    let after = torn.device;
+    let answer = torn.answer;
+    Called {
+        memory,
+        device: after,
+        number: words::torn(answer),
     }
 }

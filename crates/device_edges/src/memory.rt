@@ -27,17 +27,32 @@ impl Memory {
             store: [0; 4096],
         }
     }
+
+    // Step g says that each copy has 3,000 bytes.
+    pub fn after(mut self, step: u8) -> Memory {
+        if step == b'g' {
+            self.lengths = [3000; 2];
+        }
+        self
+    }
 }
 
-// The first n entries of a table, or all where there are fewer.
-pub fn words(table: &[u32], n: usize) -> &[u32] {
+fn entries(short: bool) -> usize {
+    if short { 1 } else { 2 }
+}
+
+// The table of two entries, or its first where it is short.
+pub fn words(table: &[u32], short: bool) -> &[u32] {
+    let n = entries(short);
     if n <= table.len() { &table[..n] } else { table }
 }
 
-pub fn longs(table: &[u64], n: usize) -> &[u64] {
+pub fn longs(table: &[u64], short: bool) -> &[u64] {
+    let n = entries(short);
     if n <= table.len() { &table[..n] } else { table }
 }
 
-pub fn floats(table: &[f64], n: usize) -> &[f64] {
+pub fn floats(table: &[f64], short: bool) -> &[f64] {
+    let n = entries(short);
     if n <= table.len() { &table[..n] } else { table }
 }

@@ -5,7 +5,19 @@ use settings::KillStyle;
 use settings::TcpKill;
 use settings::Window;
 
-pub fn delay(delay_ms: f64) -> DirectionConfig {
+// The settings that a letter stands for; any other letter stands for none.
+pub fn named(letter: u8) -> DirectionConfig {
+    match letter {
+        b'D' => delay(5.0),
+        b'W' => wrong(),
+        b'U' => duplicates(),
+        b'K' => kill(),
+        b'R' => rate(),
+        _ => DirectionConfig::default(),
+    }
+}
+
+fn delay(delay_ms: f64) -> DirectionConfig {
     let mut d = DirectionConfig::default();
     d.delay_ms = delay_ms;
     d
@@ -19,14 +31,14 @@ pub fn wrong() -> DirectionConfig {
 }
 
 // Every packet is duplicated.
-pub fn duplicates() -> DirectionConfig {
+fn duplicates() -> DirectionConfig {
     let mut d = DirectionConfig::default();
     d.duplicate_p = 1.0;
     d
 }
 
 // From 20 to 25 every arrival is a reset.
-pub fn kill() -> DirectionConfig {
+fn kill() -> DirectionConfig {
     let mut d = DirectionConfig::default();
     let window = Window {
         start_ms: 20,
@@ -42,7 +54,7 @@ pub fn kill() -> DirectionConfig {
 }
 
 // 8,000 bits a second: one byte is one millisecond.
-pub fn rate() -> DirectionConfig {
+fn rate() -> DirectionConfig {
     let d = DirectionConfig::default();
     let ge = d.ge;
     let mtu = d.mtu;

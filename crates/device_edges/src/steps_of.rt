@@ -1,57 +1,44 @@
-// The steps of a case, each a byte. Calls: a arrive, r release, b rebind, t teardown, p report. Their instant: a digit up to 5 is so many times 5 ms, n is NaN.
-// The packets' length: l is 2,049 and m 2,048; it is 3 before. The store: s lends it without its last byte, w whole. The torn copies: x is 2^60, z is 0. k says
-// whether every refused call has kept the device. What h, g, f and c alter stands at `altered`. A blank is nothing.
-use crate::altered::altered;
-use crate::counters::TOO_MANY;
-use crate::creation;
+// The steps of a case, each a byte. C creates a device, and d says what it is. Calls: a arrive, r release, b rebind, t teardown, p report. k says whether every
+// refused call has kept the device. The creation's settings: D, W, U, K and R are those of `settings_of`, else there are none. Its capacity: E is 0, O 1,
+// M 1,048,576 and N one more; it is 2 before. Its memory: each S makes the next table the short one. The calls' instant: a digit up to 5 is so many times 5 ms, n
+// is NaN. The packets' length: l is 2,049 and m 2,048; it is 3 before. The store: s lends it without its last byte, w whole. A counter's number: X is 2^60, Y one
+// less and Z 0. g says that each copy has 3,000 bytes; what else is altered stands at `altered`. i, j, o, q and u say how many bytes a slot has, as `Host::say`
+// asks. A blank is nothing.
 use crate::host::Host;
 use crate::words;
-use options::DirectionConfig;
 
-// A case of its own: a device of these settings and this capacity, and the steps.
-pub fn case(name: &[u8], settings: DirectionConfig, cap: usize, steps: &[u8]) {
-    run(creation::start(name, settings, cap, 0), steps);
+// Runs the cases of a text. A case begins with its name, which ends in a bar.
+pub fn run(text: &[u8]) {
+    let mut host = Host::new();
+    for i in 0..text.len() {
+        host = read(host, text[i]);
+    }
 }
 
-pub fn run(start: Host, steps: &[u8]) {
-    let mut host = start;
-    for i in 0..steps.len() {
-        host = stepped(host, steps[i]);
+// A byte of the name, or a step.
+fn read(mut host: Host, byte: u8) -> Host {
+    if byte == b'\n' {
+        output::end();
+        return Host::new();
     }
-    output::end();
+    if host.named {
+        return stepped(host, byte);
+    }
+    if byte == b'|' {
+        host.named = true;
+    } else {
+        words::byte(byte);
+    }
+    host
 }
 
 fn stepped(host: Host, step: u8) -> Host {
     match step {
-        b'a' => host.arrive(),
-        b'r' => host.release(),
-        b'b' => host.rebind(),
-        b't' => host.teardown(),
-        b'h' | b'g' | b'f' | b'c' => altered(host, step),
-        _ => set(host, step),
+        b'C' => host.create(),
+        b'a' | b'r' | b'b' | b't' => host.call(step),
+        _ => {
+            host.say(step);
+            host.with(step)
+        }
     }
-}
-
-fn set(mut host: Host, step: u8) -> Host {
-    let mut device = host.device;
-    match step {
-        b'p' => words::reported(device.report()),
-        b'k' => words::kept(host.kept),
-        b'0' => host.now_ms = 0.0,
-        b'1' => host.now_ms = 5.0,
-        b'2' => host.now_ms = 10.0,
-        b'3' => host.now_ms = 15.0,
-        b'4' => host.now_ms = 20.0,
-        b'5' => host.now_ms = 25.0,
-        b'n' => host.now_ms = 0.0 / 0.0,
-        b'l' => host.length = 2049,
-        b'm' => host.length = 2048,
-        b's' => host.short = true,
-        b'w' => host.short = false,
-        b'x' => device.torn = TOO_MANY,
-        b'z' => device.torn = 0,
-        _ => {}
-    }
-    host.device = device;
-    host
 }

@@ -1,22 +1,30 @@
 // The script, answered line by line to its end.
+use crate::lent;
+use crate::memory::Buffer;
+use crate::memory::Floats;
+use crate::memory::Longs;
+use crate::memory::Store;
+use crate::memory::Text;
+use crate::memory::Words;
 use crate::requests;
-use device_lines::State;
+use crate::state::State;
 use script::Source;
+use script::answers;
 
 pub fn run(
-    chunk: &mut [u8],
-    kept: &mut [u8],
-    bytes: &mut [u8],
-    out: &mut [u8],
-    win: &mut [u32],
-    free: &mut [u32],
-    dues: &mut [f64],
-    seqs: &mut [u64],
-    arrivals: &mut [f64],
-    routes: &mut [u64],
-    copy_ids: &mut [u32],
-    lengths: &mut [u32],
-    store: &mut [u8],
+    chunk: &mut Buffer,
+    kept: &mut Buffer,
+    text: &mut Text,
+    out: &mut Buffer,
+    win: &mut Words,
+    free: &mut Words,
+    dues: &mut Floats,
+    seqs: &mut Longs,
+    arrivals: &mut Floats,
+    routes: &mut Longs,
+    copy_ids: &mut Words,
+    lengths: &mut Words,
+    store: &mut Store,
 ) {
     let mut source = Source::new();
     let mut state = State::new();
@@ -25,13 +33,12 @@ pub fn run(
         let read = source.next(chunk, kept);
         source = read.source;
         let event = read.event;
-        let request = requests::request_at(event, kept, bytes);
-        let call = request.call;
-        state = device_calls::make(
+        let call = requests::call_at(event, kept, text);
+        state = lent::make(
             out,
             state,
             call,
-            values::front(bytes, request.length),
+            text,
             win,
             free,
             dues,
@@ -42,7 +49,7 @@ pub fn run(
             lengths,
             store,
         );
-        state = state.ended(out, event);
+        state.at = answers::ended(out, state.at, event);
         turns = script::turns_after(turns, event);
     }
 }

@@ -1,14 +1,23 @@
 // Reads a script of calls on devices from standard input and prints an answer line for each of its lines.
+mod arrive_line;
+mod calls;
+mod create_line;
 mod input;
+mod lent;
+mod memory;
+mod options_line;
+mod other_lines;
+mod release_line;
 mod requests;
+mod state;
 mod words;
 
-// The buffers and the device's memory, which has room for 1,024 copies, are lent from here. The buffer for lines has an even length, as script::Beyond asks;
-// that for the bytes of a line is above the 16,384 bytes of an option text and the 2,048 of a packet, so that what is too long is lent as too long.
+// The buffers and the device's memory are lent from here. The buffer for lines has an even length, as script::Beyond asks; that for option texts is above the
+// 16,384 bytes that a text may have, so that one that is too long is read as too long.
 fn main() {
     let mut chunk = io::large_buffer();
     let mut kept = io::large_buffer();
-    let mut bytes = [0u8; 32768];
+    let mut text = [0u8; 32768];
     let mut out = io::large_buffer();
     let mut win = [0u32; 1024];
     let mut free = [0u32; 1024];
@@ -22,7 +31,7 @@ fn main() {
     input::run(
         &mut chunk,
         &mut kept,
-        &mut bytes,
+        &mut text,
         &mut out,
         &mut win,
         &mut free,

@@ -19,7 +19,7 @@ pub use input::turns_after;
 pub use lines::Beyond;
 pub use lines::Line;
 pub use lines::is_complete;
-pub use option_text::text_of;
+pub use option_text::keep_text;
 pub use patterns::Pattern;
 pub use patterns::float_of_bits;
 pub use patterns::pattern_of;

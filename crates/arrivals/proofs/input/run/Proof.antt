@@ -1,16 +1,15 @@
--- The turns are counted down, and the lent buffers keep their lengths.
+-- The turns are counted down.
 use Rattle.script.specs.Turns.{fewer}
 use borrow.Author.Needs.{needs}
-use lib.ListN.{length}
-use mathlib.Core.Path.{_≡_, _∙_}
+use Prim.Native.Nat.{_≤_}
 use Rattle.arrivals.proofs.input.run.Statement.{statement}
 use Rattle.arrivals.proofs.input.run.Tie as tie
 
 abbrev Inv-loop : tie.InvT-loop
-Inv-loop out₀ chunk₀ kept₀ spare₀ text₀ source₀ state₀ turns₀ out chunk kept spare text source state turns = (length out ≡ length out₀) × ((length chunk ≡ length chunk₀) × ((length kept ≡ length kept₀) × ((length spare ≡ length spare₀) × (length text ≡ length text₀))))
+Inv-loop out₀ chunk₀ kept₀ text₀ source₀ state₀ turns₀ out chunk kept text source state turns = 0 ≤ turns
 
 abbrev μ-loop : tie.MeasureT-loop
-μ-loop out₀ chunk₀ kept₀ spare₀ text₀ source₀ state₀ turns₀ out chunk kept spare text source state turns = turns
+μ-loop out₀ chunk₀ kept₀ text₀ source₀ state₀ turns₀ out chunk kept text source state turns = turns
 
 new-requires : tie.Need-new-requires Inv-loop μ-loop
 new-requires c κs = search needs
@@ -24,39 +23,25 @@ loop-holds c = search needs
 next-requires : tie.Need-next-requires Inv-loop μ-loop
 next-requires c κs = search needs
 
+request-at-requires : tie.Need-request-at-requires Inv-loop μ-loop
+request-at-requires c κs = search needs
+
 answer-requires : tie.Need-answer-requires Inv-loop μ-loop
 answer-requires c κs = search needs
+
+ended-requires : tie.Need-ended-requires Inv-loop μ-loop
+ended-requires c κs = search needs
 
 turns-after-requires : tie.Need-turns-after-requires Inv-loop μ-loop
 turns-after-requires c κs = search needs
 
 loop-less : tie.Need-loop-less Inv-loop μ-loop
 loop-less c =
-    let read = c .before .before .before .before .before .before .before .before .before .before .before .before .before .before .before .before .before in
+    let read = c .before .before .before .before .before .before .before .before .before .before .before .before in
     rw (c .turns-after .ensures) (fewer _ (read .next .result .event) (read .before .before .before .loop-test .taken))
 
 loop-again : tie.Need-loop-again Inv-loop μ-loop
-loop-again c =
-    let written = c .before .before .before .before .before .before in
-    let kept = written .before .before .before .before .before .before .before .before in
-    let read = kept .before .before in
-    let at = read .before .before .before .before .before in
-    (written .out .given ∙ at .loop .inv .0, (read .chunk .given ∙ at .loop .inv .1 .0, (kept .kept .given ∙ at .loop .inv .1 .1 .0, (c .before .before .before .before .spare .given ∙ at .loop .inv .1 .1 .1 .0, c .before .before .text .given ∙ at .loop .inv .1 .1 .1 .1))))
-
-same-length : tie.Need-same-length Inv-loop μ-loop
-same-length c = search needs
-
-same-length-2 : tie.Need-same-length-2 Inv-loop μ-loop
-same-length-2 c = search needs
-
-same-length-3 : tie.Need-same-length-3 Inv-loop μ-loop
-same-length-3 c = search needs
-
-same-length-4 : tie.Need-same-length-4 Inv-loop μ-loop
-same-length-4 c = search needs
-
-same-length-5 : tie.Need-same-length-5 Inv-loop μ-loop
-same-length-5 c = search needs
+loop-again c = search needs
 
 returns : tie.Need-returns Inv-loop μ-loop
 returns c = search needs
@@ -71,13 +56,10 @@ run-spec =
     new-requires-2
     loop-holds
     next-requires
+    request-at-requires
     answer-requires
+    ended-requires
     turns-after-requires
     loop-less
     loop-again
-    same-length
-    same-length-2
-    same-length-3
-    same-length-4
-    same-length-5
     returns)

@@ -1,4 +1,4 @@
--- The loop ends after the last step.
+-- The loop ends after the last byte.
 use borrow.Author.Needs.{needs}
 use mathlib.Core.Path.{_≡_}
 use Prim.Native.Nat.{_≤_, _-_}
@@ -7,19 +7,22 @@ use Rattle.device_edges.proofs.steps_of.run.Statement.{statement}
 use Rattle.device_edges.proofs.steps_of.run.Tie as tie
 
 abbrev Inv-loop : tie.InvT-loop
-Inv-loop steps host₀ i₀ i-end host i = (i ≤ i-end) × (i-end ≡ length steps)
+Inv-loop text host₀ i₀ i-end host i = (i ≤ i-end) × (i-end ≡ length text)
 
 abbrev μ-loop : tie.MeasureT-loop
-μ-loop steps host₀ i₀ i-end host i = i-end - i
+μ-loop text host₀ i₀ i-end host i = i-end - i
+
+new-requires : tie.Need-new-requires Inv-loop μ-loop
+new-requires c κs = search needs
 
 loop-holds : tie.Need-loop-holds Inv-loop μ-loop
 loop-holds c = search needs
 
-shared-slice-read-stepped : tie.Need-shared-slice-read-stepped Inv-loop μ-loop
-shared-slice-read-stepped c = search needs
+shared-slice-read-read : tie.Need-shared-slice-read-read Inv-loop μ-loop
+shared-slice-read-read c = search needs
 
-stepped-requires : tie.Need-stepped-requires Inv-loop μ-loop
-stepped-requires c κs = search needs
+read-requires : tie.Need-read-requires Inv-loop μ-loop
+read-requires c κs = search needs
 
 add-i : tie.Need-add-i Inv-loop μ-loop
 add-i c = search needs
@@ -30,9 +33,6 @@ loop-less c = search needs
 loop-again : tie.Need-loop-again Inv-loop μ-loop
 loop-again c = search needs
 
-end-requires : tie.Need-end-requires Inv-loop μ-loop
-end-requires c κs = search needs
-
 returns : tie.Need-returns Inv-loop μ-loop
 returns c = search needs
 
@@ -42,11 +42,11 @@ run-spec =
     (tie.spec
     Inv-loop
     μ-loop
+    new-requires
     loop-holds
-    shared-slice-read-stepped
-    stepped-requires
+    shared-slice-read-read
+    read-requires
     add-i
     loop-less
     loop-again
-    end-requires
     returns)

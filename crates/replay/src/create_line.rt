@@ -1,8 +1,13 @@
 // The line `create DIRECTION SALT CAPACITY`: a new device of the settings that the last option text has for the direction.
 use crate::state::State;
 use device::Device;
-use options::Config;
 use options::DirectionConfig;
+
+// The settings of a direction, and the seed.
+struct Choice {
+    settings: DirectionConfig,
+    seed: u64,
+}
 
 pub fn create(
     out: &mut [u8],
@@ -10,6 +15,7 @@ pub fn create(
     c2s: bool,
     salt: u64,
     cap: u64,
+    text: &[u8],
     win: &[u32],
     free: &[u32],
     dues: &[f64],
@@ -20,10 +26,11 @@ pub fn create(
     lengths: &[u32],
     store: &[u8],
 ) -> State {
-    let config = s.config;
+    let chosen = chosen(values::front(text, s.length), c2s);
+    let settings = chosen.settings;
     let created = Device::create(
-        settings_of(config, c2s),
-        config.seed,
+        settings,
+        chosen.seed,
         salt,
         cap as usize,
         win,
@@ -43,12 +50,16 @@ pub fn create(
     s
 }
 
-fn settings_of(config: Config, c2s: bool) -> DirectionConfig {
+// A text that is refused gives the default settings.
+fn chosen(text: &[u8], c2s: bool) -> Choice {
+    let p = options::parse_config(text);
+    let config = p.config;
+    let seed = config.seed;
     if c2s {
         let settings = config.c2s;
-        settings
+        Choice { settings, seed }
     } else {
         let settings = config.s2c;
-        settings
+        Choice { settings, seed }
     }
 }

@@ -1,14 +1,18 @@
 // The line `r NOW`: the least copy that is due leaves.
+use crate::memory::Buffer;
+use crate::memory::Floats;
+use crate::memory::Longs;
+use crate::memory::Words;
 use crate::state::State;
 
 pub fn release(
-    out: &mut [u8],
+    out: &mut Buffer,
     mut s: State,
     now_ms: f64,
-    win: &mut [u32],
-    free: &mut [u32],
-    dues: &mut [f64],
-    seqs: &mut [u64],
+    win: &mut Words,
+    free: &mut Words,
+    dues: &mut Floats,
+    seqs: &mut Longs,
     arrivals: &[f64],
     routes: &[u64],
     copy_ids: &[u32],

@@ -6,8 +6,8 @@ use mathlib.Core.List.{List}
 use mathlib.Core.Path.{_≡_}
 use Prim.Native.Nat.{ℕ, _≤_}
 use borrow.Author.Needs.{needs}
-use Rattle.arrivals.proofs.options_line.stored.Statement.{statement}
-use Rattle.arrivals.proofs.options_line.stored.Tie as tie
+use Rattle.script.proofs.option_text.stored.Statement.{statement}
+use Rattle.script.proofs.option_text.stored.Tie as tie
 
 -- the front is no longer than its bound
 fits : (s r t : List ℕ) → r ≡ take (length t) s → length r ≤ length t
