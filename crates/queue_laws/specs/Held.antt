@@ -1,6 +1,6 @@
 -- The plain queue: a list of the copies that are held, in the order in which they entered, beside the capacity and the next seq. It knows no slots, no
 -- tables and no tree. Laws shows that the calls of crates/queue answer as it does.
-use mathlib.Core.Bool.{Bool, cond, not, _&&_}
+use mathlib.Core.Bool.{Bool, true, cond, not, _&&_}
 use mathlib.Core.List.{List, [], _∷_, _++_}
 use Prim.Native.Nat.{ℕ, _+_}
 use lib.Dec.{leb, eqb}
@@ -10,8 +10,6 @@ use Rattle.numbers.specs.Instant.{isInstantOf}
 use Rattle.numbers.specs.Limits.{isCounterOf}
 use Rattle.numbers.specs.Refusals.{refusedInstant, refusedLength, refusedCounter, refusedDue, refusedFull}
 use Rattle.held.specs.Copies.{Copy, copy, least, without, Leaving, noCopy, oneCopy, leaving}
-use Rattle.queue.specs.declared.answers.DueAnswer.{DueAnswer}
-use Rattle.queue.specs.declared.answers.DueAnswer.the-variants as due
 
 pub record Plain : Type 0 where
   pub cap : ℕ
@@ -21,18 +19,27 @@ pub record Plain : Type 0 where
 abbrev pub plain : ℕ → List Copy → ℕ → Plain
 plain c h n = record { cap = c; held = h; nextSeq = n }
 
--- a push has a due, an arrival, a route, a copy id, whether the packet is duplicated, and bytes; a release has an instant
+-- a push has a due, an arrival, a route, a copy id, whether the packet is duplicated, and bytes; a release has an instant; the last four only ask
 pub data Call : Type 0 where
   push : Float → Float → ℕ → ℕ → Bool → List ℕ → Call
   release : Float → Call
   drain : Call
+  nextDue : Call
+  len : Call
+  isEmpty : Call
+  hasMemory : Call
 
--- copies entered (the seq of the first, and how many), a copy left, none is due, so many left, or the number of the refusal
+-- copies entered (the seq of the first, and how many), a copy left, none is due, so many left; the next due, none is held, so many are, yes or no; or the number
+-- of the refusal
 pub data Reply : Type 0 where
   entered : ℕ → ℕ → Reply
   released : Copy → Reply
   noneDue : Reply
   drained : ℕ → Reply
+  dueNext : Float → Reply
+  noneHeld : Reply
+  holds : ℕ → Reply
+  tells : Bool → Reply
   refused : ℕ → Reply
 
 pub record Step : Type 0 where
@@ -82,18 +89,23 @@ drainPlain p =
     cond (not (isCounterOf (p .nextSeq))) (stepTo (refused refusedCounter) p)
     (stepTo (drained (length (p .held))) (plain (p .cap) [] (p .nextSeq)))
 
-unfoldable pub leastDue : List Copy → DueAnswer
-leastDue [] = due.Empty
-leastDue (c ∷ l) = due.Due (least c l .due)
+unfoldable pub leastDue : List Copy → Reply
+leastDue [] = noneHeld
+leastDue (c ∷ l) = dueNext (least c l .due)
 
 -- 25; else the least copy's due, or that none is held
-unfoldable pub nextDuePlain : Plain → DueAnswer
-nextDuePlain p = cond (not (isCounterOf (p .nextSeq))) (due.Refused refusedCounter) (leastDue (p .held))
+unfoldable pub nextDuePlain : Plain → Reply
+nextDuePlain p = cond (not (isCounterOf (p .nextSeq))) (refused refusedCounter) (leastDue (p .held))
 
 unfoldable pub step : ℕ → Plain → Call → Step
 step width p (push d a r c dup b) = pushPlain width p d a r c dup b
 step width p (release now) = releasePlain p now
 step width p drain = drainPlain p
+step width p nextDue = stepTo (nextDuePlain p) p
+step width p len = stepTo (holds (length (p .held))) p
+step width p isEmpty = stepTo (tells (eqb (length (p .held)) 0)) p
+-- the memory that was lent has room
+step width p hasMemory = stepTo (tells true) p
 
 -- the replies to a list of calls, each on what the last one left
 unfoldable pub run : ℕ → Plain → List Call → List Reply

@@ -2,7 +2,8 @@
 use mathlib.Core.List.{List, [], _∷_}
 use Prim.Native.Nat.{ℕ}
 use Rattle.held.specs.Copies.{Copy, copy}
-use Rattle.queue.specs.Calls.{payloadOf, pushOf, releaseOf, drainOf}
+use Rattle.queue.specs.Calls.{payloadOf, pushOf, releaseOf, drainOf, nextDueOf, lenOf, isEmptyOf}
+use Rattle.queue.specs.Refusals.{memoryOf}
 use Rattle.queue.specs.Tables.{Tables, After}
 use Rattle.queue.specs.declared.queue.ImpairQueue.{ImpairQueue}
 use Rattle.queue.specs.declared.answers.Queued.{Queued}
@@ -15,7 +16,9 @@ use Rattle.queue.specs.declared.answers.ReleaseAnswer.the-variants as releaseAn
 use Rattle.queue.specs.declared.answers.Drained.{Drained}
 use Rattle.queue.specs.declared.answers.DrainAnswer.{DrainAnswer}
 use Rattle.queue.specs.declared.answers.DrainAnswer.the-variants as drainAnswer
-use Rattle.queue_laws.specs.Held.{Call, push, release, drain, Reply, entered, released, noneDue, drained, refused}
+use Rattle.queue.specs.declared.answers.DueAnswer.{DueAnswer}
+use Rattle.queue.specs.declared.answers.DueAnswer.the-variants as dueAnswer
+use Rattle.queue_laws.specs.Held.{Call, push, release, drain, nextDue, len, isEmpty, hasMemory, Reply, entered, released, noneDue, drained, dueNext, noneHeld, holds, tells, refused}
 
 abbrev pub saidOfPush : PushAnswer → Reply
 saidOfPush (pushAnswer.Entered seq copies) = entered seq copies
@@ -33,6 +36,11 @@ saidOfRelease width store (releaseAnswer.Refused k) = refused k
 abbrev pub saidOfDrain : DrainAnswer → Reply
 saidOfDrain (drainAnswer.Drained n) = drained n
 saidOfDrain (drainAnswer.Refused k) = refused k
+
+abbrev pub saidOfDue : DueAnswer → Reply
+saidOfDue (dueAnswer.Due d) = dueNext d
+saidOfDue dueAnswer.Empty = noneHeld
+saidOfDue (dueAnswer.Refused k) = refused k
 
 -- what a call says, and the state and tables that it leaves
 pub record Said : Type 0 where
@@ -58,6 +66,10 @@ unfoldable pub answerTo : ℕ → ImpairQueue → Tables → Call → Said
 answerTo width q t (push d a r c dup b) = saidByPush (pushOf width q t d a r c dup b)
 answerTo width q t (release now) = saidByRelease width (releaseOf width q t now)
 answerTo width q t drain = saidByDrain t (drainOf q)
+answerTo width q t nextDue = said (saidOfDue (nextDueOf q (t .win) (t .dues))) q t
+answerTo width q t len = said (holds (lenOf q)) q t
+answerTo width q t isEmpty = said (tells (isEmptyOf q)) q t
+answerTo width q t hasMemory = said (tells (memoryOf width (q .cap) t)) q t
 
 -- a list of calls, each on what the last one left
 unfoldable pub answersTo : ℕ → ImpairQueue → Tables → List Call → List Reply

@@ -1,11 +1,12 @@
 -- THE THEOREM over what the functions of crates/queue themselves ensure: for every list of calls on a queue that `create` made, over any lent memory, each
--- call answered and each table left as the contract of `push`, `release` or `drain` says, and each released copy's bytes read as that of `payload` says, the
--- replies are the plain queue's.
+-- call answered and each table left as the contract of its function says, and each released copy's bytes read as that of `payload` says, the replies are the
+-- plain queue's. The functions are all that are public: `push`, `release`, `drain`, `next_due`, `len`, `is_empty` and `has_memory`.
 use mathlib.Core.Path.{_≡_, refl, sym, ap, _∙_}
 use mathlib.Core.Bool.{Bool, true}
 use mathlib.Core.List.{List, [], _∷_}
 use Prim.Native.Nat.{ℕ}
 use lib.Ieee.{Float}
+use lib.ListN.{length}
 use denote.Ref.{now}
 use contract.Lifetimes
 use borrow.Fn.World
@@ -13,8 +14,8 @@ use borrow.Fn.Kinds as Kinds'
 use denote.Triple.Clauses
 use Rattle.held.specs.Copies.{copy}
 use Rattle.queue.specs.Tables.{Tables, After, after}
-use Rattle.queue.specs.Refusals.{slotWidth, memoryOf}
-use Rattle.queue.specs.Calls.{createOf, pushOf, releaseOf, drainOf, payloadOf}
+use Rattle.queue.specs.Refusals.{slotWidth, roomOf, memoryOf}
+use Rattle.queue.specs.Calls.{createOf, pushOf, releaseOf, drainOf, nextDueOf, lenOf, isEmptyOf, payloadOf}
 use Rattle.queue.specs.declared.queue.ImpairQueue.{ImpairQueue}
 use Rattle.queue.specs.declared.answers.Created.{Created}
 use Rattle.queue.specs.declared.answers.CreateAnswer.the-variants as created
@@ -24,6 +25,7 @@ use Rattle.queue.specs.declared.answers.Released.{Released}
 use Rattle.queue.specs.declared.answers.ReleaseAnswer.{ReleaseAnswer}
 use Rattle.queue.specs.declared.answers.ReleaseAnswer.the-variants as answered
 use Rattle.queue.specs.declared.answers.Drained.{Drained}
+use Rattle.queue.specs.declared.answers.DueAnswer.{DueAnswer}
 use Rattle.queue.proofs.queue.ImpairQueue.create as create-fn
 use Rattle.queue.proofs.queue.ImpairQueue.create.Reads as create
 use Rattle.queue.proofs.queue.ImpairQueue.create.Kinds as create-kinds
@@ -36,11 +38,23 @@ use Rattle.queue.proofs.queue.ImpairQueue.release.Kinds as release-kinds
 use Rattle.queue.proofs.queue.ImpairQueue.drain as drain-fn
 use Rattle.queue.proofs.queue.ImpairQueue.drain.Reads as drain
 use Rattle.queue.proofs.queue.ImpairQueue.drain.Kinds as drain-kinds
+use Rattle.queue.proofs.queue.ImpairQueue.next_due as next-due-fn
+use Rattle.queue.proofs.queue.ImpairQueue.next_due.Reads as next-due
+use Rattle.queue.proofs.queue.ImpairQueue.next_due.Kinds as next-due-kinds
+use Rattle.queue.proofs.queue.ImpairQueue.len as len-fn
+use Rattle.queue.proofs.queue.ImpairQueue.len.Reads as len
+use Rattle.queue.proofs.queue.ImpairQueue.len.Kinds as len-kinds
+use Rattle.queue.proofs.queue.ImpairQueue.is_empty as is-empty-fn
+use Rattle.queue.proofs.queue.ImpairQueue.is_empty.Reads as is-empty
+use Rattle.queue.proofs.queue.ImpairQueue.is_empty.Kinds as is-empty-kinds
+use Rattle.queue.proofs.queue.ImpairQueue.has_memory as has-memory-fn
+use Rattle.queue.proofs.queue.ImpairQueue.has_memory.Reads as has-memory
+use Rattle.queue.proofs.queue.ImpairQueue.has_memory.Kinds as has-memory-kinds
 use Rattle.queue.proofs.payload as payload-fn
 use Rattle.queue.proofs.payload.Reads as payload
 use Rattle.queue.proofs.payload.Kinds as payload-kinds
-use Rattle.queue_laws.specs.Held.{Call, push as pushCall, release as releaseCall, drain as drainCall, Reply, released, noneDue, refused, plain, run}
-use Rattle.queue_laws.specs.Replies.{saidOfPush, saidOfRelease, saidOfDrain, saidByPush, saidByRelease, saidByDrain, answerTo, answersTo}
+use Rattle.queue_laws.specs.Held.{Call, push as pushCall, release as releaseCall, drain as drainCall, nextDue as dueCall, len as lenCall, isEmpty as emptyCall, hasMemory as memoryCall, Reply, holds, tells, released, noneDue, refused, plain, run}
+use Rattle.queue_laws.specs.Replies.{saidOfPush, saidOfRelease, saidOfDrain, saidOfDue, saidByPush, saidByRelease, saidByDrain, answerTo, answersTo}
 use Rattle.queue_laws.specs.Lent.{lentTables, leftByEntry, leftByExit}
 use Rattle.queue_laws.specs.Laws.Runs.{created-agrees, refused-creation-agrees}
 
@@ -81,6 +95,38 @@ pub data Drains (q : ImpairQueue) : Drained → Type 1 where
       → drain.Learnt κs a r s
       → Drains q r
 
+-- a call of `next_due`, which is lent two of the tables
+pub data AsksDue (q : ImpairQueue) (t : Tables) : DueAnswer → Type 1 where
+  called : (κs : Lifetimes.Lfts 2) (a : World.ArgsD next-due-fn.signature κs) (r : World.ResD next-due-fn.signature κs) (s : Clauses.AtExit (Kinds'.endedOf 2 next-due-kinds.ps next-due-kinds.r) κs)
+      → a .0 ≡ q → now (a .1 .0) ≡ t .win → now (a .1 .1 .0) ≡ t .dues
+      → next-due.Learnt κs a r s
+      → AsksDue q t r
+
+-- calls of `len` and `is_empty`
+pub data AsksLen (q : ImpairQueue) : ℕ → Type 1 where
+  called : (κs : Lifetimes.Lfts 0) (a : World.ArgsD len-fn.signature κs) (r : World.ResD len-fn.signature κs) (s : Clauses.AtExit (Kinds'.endedOf 0 len-kinds.ps len-kinds.r) κs)
+      → a .0 ≡ q
+      → len.Learnt κs a r s
+      → AsksLen q r
+
+pub data AsksEmpty (q : ImpairQueue) : Bool → Type 1 where
+  called : (κs : Lifetimes.Lfts 0) (a : World.ArgsD is-empty-fn.signature κs) (r : World.ResD is-empty-fn.signature κs) (s : Clauses.AtExit (Kinds'.endedOf 0 is-empty-kinds.ps is-empty-kinds.r) κs)
+      → a .0 ≡ q
+      → is-empty.Learnt κs a r s
+      → AsksEmpty q r
+
+-- the lengths of the tables, one after the other
+abbrev lengthsOf : Tables → ℕ × (ℕ × (ℕ × (ℕ × (ℕ × (ℕ × (ℕ × (ℕ × ℕ)))))))
+lengthsOf t = (length (t .win), (length (t .free), (length (t .dues), (length (t .seqs), (length (t .arrivals), (length (t .routes), (length (t .copyIds), (length (t .lengths), length (t .store)))))))))
+
+-- a call of `has_memory` with the lengths of the lent tables
+pub data AsksMemory (q : ImpairQueue) (t : Tables) : Bool → Type 1 where
+  called : (κs : Lifetimes.Lfts 0) (a : World.ArgsD has-memory-fn.signature κs) (r : World.ResD has-memory-fn.signature κs) (s : Clauses.AtExit (Kinds'.endedOf 0 has-memory-kinds.ps has-memory-kinds.r) κs)
+      → a .0 ≡ q
+      → (a .1 .0, (a .1 .1 .0, (a .1 .1 .1 .0, (a .1 .1 .1 .1 .0, (a .1 .1 .1 .1 .1 .0, (a .1 .1 .1 .1 .1 .1 .0, (a .1 .1 .1 .1 .1 .1 .1 .0, (a .1 .1 .1 .1 .1 .1 .1 .1 .0, a .1 .1 .1 .1 .1 .1 .1 .1 .1 .0)))))))) ≡ lengthsOf t
+      → has-memory.Learnt κs a r s
+      → AsksMemory q t r
+
 -- a call of `payload` on a store, with a slot and a length, returned bytes
 pub data Reads (store : List ℕ) (slot len : ℕ) : List ℕ → Type 1 where
   called : (κs : Lifetimes.Lfts 1) (a : World.ArgsD payload-fn.signature κs) (r : World.ResD payload-fn.signature κs) (s : Clauses.AtExit (Kinds'.endedOf 1 payload-kinds.ps payload-kinds.r) κs)
@@ -115,6 +161,23 @@ says-is refuses = refl
 drains-is : {q : ImpairQueue} {r : Drained} → Drains q r → r ≡ drainOf q
 drains-is (Drains.called κs a r s eq h) = h ∙ (λ i. drainOf (eq i))
 
+asks-due-is : {q : ImpairQueue} {t : Tables} {r : DueAnswer} → AsksDue q t r → r ≡ nextDueOf q (t .win) (t .dues)
+asks-due-is (AsksDue.called κs a r s eq ew ed h) = h ∙ (λ i. nextDueOf (eq i) (ew i) (ed i))
+
+asks-len-is : {q : ImpairQueue} {n : ℕ} → AsksLen q n → n ≡ lenOf q
+asks-len-is (AsksLen.called κs a r s eq h) = h ∙ (λ i. lenOf (eq i))
+
+asks-empty-is : {q : ImpairQueue} {b : Bool} → AsksEmpty q b → b ≡ isEmptyOf q
+asks-empty-is (AsksEmpty.called κs a r s eq h) = h ∙ (λ i. isEmptyOf (eq i))
+
+asks-memory-is : {q : ImpairQueue} {t : Tables} {b : Bool} → AsksMemory q t b → b ≡ memoryOf slotWidth (q .cap) t
+unfolding memoryOf
+asks-memory-is (AsksMemory.called κs a r s eq el h) =
+    h
+    ∙ (λ i.
+    roomOf slotWidth (eq i .cap) (el i .0) (el i .1 .0) (el i .1 .1 .0) (el i .1 .1 .1 .0) (el i .1 .1 .1 .1 .0) (el i .1 .1 .1 .1 .1 .0)
+    (el i .1 .1 .1 .1 .1 .1 .0) (el i .1 .1 .1 .1 .1 .1 .1 .0) (el i .1 .1 .1 .1 .1 .1 .1 .1))
+
 -- a run of the functions over a list of calls, with its replies: each call begins with what the last one left
 pub data Ran : ImpairQueue → Tables → List Call → List Reply → Type 1 where
   done : {q : ImpairQueue} {t : Tables} → Ran q t [] []
@@ -127,6 +190,11 @@ pub data Ran : ImpairQueue → Tables → List Call → List Reply → Type 1 wh
   drains : {q : ImpairQueue} {t : Tables} {r : Drained} {cs : List Call} {rs : List Reply}
       → Drains q r → Ran (r .queue) t cs rs
       → Ran q t (drainCall ∷ cs) (saidOfDrain (r .answer) ∷ rs)
+  -- a question hands back no state: the host goes on with the one that it has
+  asks-due : {q : ImpairQueue} {t : Tables} {r : DueAnswer} {cs : List Call} {rs : List Reply} → AsksDue q t r → Ran q t cs rs → Ran q t (dueCall ∷ cs) (saidOfDue r ∷ rs)
+  asks-len : {q : ImpairQueue} {t : Tables} {n : ℕ} {cs : List Call} {rs : List Reply} → AsksLen q n → Ran q t cs rs → Ran q t (lenCall ∷ cs) (holds n ∷ rs)
+  asks-empty : {q : ImpairQueue} {t : Tables} {b : Bool} {cs : List Call} {rs : List Reply} → AsksEmpty q b → Ran q t cs rs → Ran q t (emptyCall ∷ cs) (tells b ∷ rs)
+  asks-memory : {q : ImpairQueue} {t : Tables} {b : Bool} {cs : List Call} {rs : List Reply} → AsksMemory q t b → Ran q t cs rs → Ran q t (memoryCall ∷ cs) (tells b ∷ rs)
 
 ran-is : {q : ImpairQueue} {t : Tables} {cs : List Call} {rs : List Reply} → Ran q t cs rs → rs ≡ answersTo slotWidth q t cs
 unfolding answersTo answerTo
@@ -140,6 +208,10 @@ ran-is (releases {t′ = t′} {r = r} {cs = cs} c a k) =
 ran-is (drains {t = t} {r = r} {cs = cs} c k) =
     ap (λ (l : List Reply). saidOfDrain (r .answer) ∷ l) (ran-is k)
     ∙ ap (λ (o : Drained). saidByDrain t o .reply ∷ answersTo slotWidth (saidByDrain t o .queue) (saidByDrain t o .tables) cs) (drains-is c)
+ran-is (asks-due c k) = λ i. saidOfDue (asks-due-is c i) ∷ ran-is k i
+ran-is (asks-len c k) = λ i. holds (asks-len-is c i) ∷ ran-is k i
+ran-is (asks-empty c k) = λ i. tells (asks-empty-is c i) ∷ ran-is k i
+ran-is (asks-memory c k) = λ i. tells (asks-memory-is c i) ∷ ran-is k i
 
 -- every run on a queue that was created replies as the plain queue of that capacity does
 pub theorem : {cap : ℕ} {t : Tables} {r : Created} → Creates cap t r → r .answer ≡ created.Created → (cs : List Call) (rs : List Reply) → Ran (r .queue) t cs rs → rs ≡ run slotWidth (plain cap [] 0) cs

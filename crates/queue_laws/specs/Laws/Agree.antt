@@ -24,10 +24,9 @@ use Rattle.queue.specs.Refusals.{memoryOf, inKeeping, queueChecks, pushRefusal,
 use Rattle.queue.specs.Calls.{notPushed, AfterCopy, enterCopyOf, toldOf, told, againOf, secondOf, enterCopiesOf, pushOf, notReleased, leftOf, dueOf, releaseOf, drainOf, dueAt, nextDueOf, lenOf, isEmptyOf}
 use Rattle.queue.specs.declared.queue.ImpairQueue.{ImpairQueue}
 use Rattle.queue.specs.declared.answers.Released.{Released}
-use Rattle.queue.specs.declared.answers.DueAnswer.the-variants as due
 use Rattle.queue.specs.declared.answers.ReleaseAnswer.the-variants as release
-use Rattle.queue_laws.specs.Held.{Plain, Step, stepTo, entered, noneDue, drained, refused, isFull, withCopy, secondPlain, pushPlain, handOut, releasePlain, drainPlain, leastDue, nextDuePlain}
-use Rattle.queue_laws.specs.Replies.{Said, said, saidByPush, saidByRelease, saidByDrain}
+use Rattle.queue_laws.specs.Held.{Plain, Step, stepTo, entered, noneDue, drained, dueNext, refused, isFull, withCopy, secondPlain, pushPlain, handOut, releasePlain, drainPlain, leastDue, nextDuePlain}
+use Rattle.queue_laws.specs.Replies.{Said, said, saidByPush, saidByRelease, saidByDrain, saidOfDue}
 use Rattle.queue_laws.specs.Laws.Rows.{seqLimit}
 use Rattle.queue_laws.specs.Laws.Keeps.{Keeps, rowOf}
 use Rattle.queue_laws.specs.Laws.Creation.{long-memory, drained-keeps}
@@ -209,16 +208,16 @@ module _ (width : ℕ) (t : Tables) (q : ImpairQueue) (p : Plain) (k : Keeps wid
   due-tests = rw (le-leb (q .cap) (length (t .win)) (k .long .win), le-leb (q .cap) (length (t .dues)) (k .long .dues)) state-tests
 
   -- the least due that is held
-  pub due-agrees : nextDueOf q (t .win) (t .dues) ≡ nextDuePlain p
+  pub due-agrees : saidOfDue (nextDueOf q (t .win) (t .dues)) ≡ nextDuePlain p
   unfolding nextDueOf nextDuePlain leastDue dueAt firstFailing
   due-agrees = go (isCounterOf (p .nextSeq)) refl (p .held) refl
     where
-      go : (b : Bool) → isCounterOf (p .nextSeq) ≡ b → (h : List Copy) → p .held ≡ h → nextDueOf q (t .win) (t .dues) ≡ nextDuePlain p
+      go : (b : Bool) → isCounterOf (p .nextSeq) ≡ b → (h : List Copy) → p .held ≡ h → saidOfDue (nextDueOf q (t .win) (t .dues)) ≡ nextDuePlain p
       go false e h eh = rw (due-tests, e)
       go true e [] eh =
           let none : q .held ≡ 0 = k .count ∙ ap length eh in
           rw (due-tests, e, none, eh)
-      go true e (c ∷ l) eh = rw (due-tests, e, not-empty c l eh, in-tree c l eh, eh) (ap (λ (x : Copy). due.Due (x .due)) (sym (root-least width t q p k c l eh)))
+      go true e (c ∷ l) eh = rw (due-tests, e, not-empty c l eh, in-tree c l eh, eh) (ap (λ (x : Copy). dueNext (x .due)) (sym (root-least width t q p k c l eh)))
 
   -- the number of copies that are held
   pub len-agrees : lenOf q ≡ length (p .held)

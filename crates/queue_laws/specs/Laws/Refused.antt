@@ -17,11 +17,10 @@ use Rattle.held.specs.Copies.{Copy, Leaving, noCopy, oneCopy, leaving}
 use Rattle.queue.specs.Tables.{Tables}
 use Rattle.queue.specs.Calls.{pushOf, nextDueOf}
 use Rattle.queue.specs.declared.queue.ImpairQueue.{ImpairQueue}
-use Rattle.queue.specs.declared.answers.DueAnswer.the-variants as due
-use Rattle.queue_laws.specs.Held.{Plain, Step, stepTo, Call, push, release, drain, entered, released, noneDue, drained, refused, isFull, withCopy, secondPlain, pushPlain, handOut, releasePlain, drainPlain, leastDue, nextDuePlain, step}
+use Rattle.queue_laws.specs.Held.{Plain, Step, stepTo, Call, push, release, drain, nextDue, len, isEmpty, hasMemory, Reply, entered, released, noneDue, drained, holds, tells, refused, isFull, withCopy, secondPlain, pushPlain, handOut, releasePlain, drainPlain, leastDue, nextDuePlain, step}
 use Rattle.queue_laws.specs.Replies.{answerTo, saidByPush}
 use Rattle.queue_laws.specs.Laws.Keeps.{Keeps}
-use Rattle.queue_laws.specs.Laws.Agree.{push-agrees, due-agrees}
+use Rattle.queue_laws.specs.Laws.Agree.{push-agrees}
 use Rattle.queue_laws.specs.Laws.Runs.{call-agrees}
 
 -- a refusal that is neither 23 nor 26
@@ -69,25 +68,28 @@ drain-clear p =
     cond-has Clear (not (isCounterOf (p .nextSeq))) (clear-refused refusedCounter p ((λ z. omega arith), λ z. omega arith))
     (λ (n : ℕ) (e : drained (length (p .held)) ≡ refused n). let z : _≡_ {A = ℕ} 0 1 = cc in absurd (omega arith))
 
+clear-least : (l : List Copy) (p : Plain) → Clear (stepTo (leastDue l) p)
+unfolding leastDue
+clear-least [] p n e = let z : _≡_ {A = ℕ} 0 1 = cc in absurd (omega arith)
+clear-least (c ∷ l) p n e = let z : _≡_ {A = ℕ} 0 1 = cc in absurd (omega arith)
+
+due-clear : (p : Plain) → Clear (stepTo (nextDuePlain p) p)
+unfolding nextDuePlain
+due-clear p = cond-has (λ (r : Reply). Clear (stepTo r p)) (not (isCounterOf (p .nextSeq))) (clear-refused refusedCounter p ((λ z. omega arith), λ z. omega arith)) (clear-least (p .held) p)
+
 step-clear : (width : ℕ) (p : Plain) (c : Call) → Clear (step width p c)
 unfolding step
 step-clear width p (push due arrival route id duplicated bytes) = push-clear width p due arrival route id duplicated bytes
 step-clear width p (release now) = release-clear p now
 step-clear width p drain = drain-clear p
+step-clear width p nextDue = due-clear p
+step-clear width p len = λ (n : ℕ) (e : holds (length (p .held)) ≡ refused n). let z : _≡_ {A = ℕ} 0 1 = cc in absurd (omega arith)
+step-clear width p isEmpty = λ (n : ℕ) (e : tells (eqb (length (p .held)) 0) ≡ refused n). let z : _≡_ {A = ℕ} 0 1 = cc in absurd (omega arith)
+step-clear width p hasMemory = λ (n : ℕ) (e : tells true ≡ refused n). let z : _≡_ {A = ℕ} 0 1 = cc in absurd (omega arith)
 
 -- no call is refused with 23 or 26
 pub neither-refused : (width : ℕ) (t : Tables) (q : ImpairQueue) (p : Plain) → Keeps width t q p → (c : Call) (n : ℕ) → answerTo width q t c .reply ≡ refused n → Neither n
 neither-refused width t q p k c n e = step-clear width p c n (sym (call-agrees width t q p k c .says) ∙ e)
-
--- nor is the question for the next due, whose one refusal is 25
-pub due-refused : (width : ℕ) (t : Tables) (q : ImpairQueue) (p : Plain) → Keeps width t q p → (n : ℕ) → nextDueOf q (t .win) (t .dues) ≡ due.Refused n → n ≡ refusedCounter
-unfolding nextDuePlain leastDue
-due-refused width t q p k n e = go (isCounterOf (p .nextSeq)) (p .held) (sym (due-agrees width t q p k) ∙ e)
-  where
-    go : (b : Bool) (l : List Copy) → cond (not b) (due.Refused refusedCounter) (leastDue l) ≡ due.Refused n → n ≡ refusedCounter
-    go false l h = cc
-    go true [] h = let z : _≡_ {A = ℕ} 0 1 = cc in absurd (omega arith)
-    go true (c ∷ l) h = let z : _≡_ {A = ℕ} 0 1 = cc in absurd (omega arith)
 
 -- 28 comes only where as many copies are held as the capacity
 module _ (width : ℕ) (t : Tables) (q : ImpairQueue) (p : Plain) (k : Keeps width t q p) (due arrival : Float) (route id : ℕ) (duplicated : Bool) (bytes : List ℕ) where

@@ -8,17 +8,21 @@ use Rattle.queue.specs.Refusals.{memoryOf}
 use Rattle.queue.specs.Calls.{createOf}
 use Rattle.queue.specs.declared.queue.ImpairQueue.{ImpairQueue}
 use Rattle.queue.specs.declared.answers.CreateAnswer.the-variants as create
-use Rattle.queue_laws.specs.Held.{Plain, plain, Call, push, release, drain, Reply, step, run}
+use Rattle.queue_laws.specs.Held.{Plain, plain, Call, push, release, drain, nextDue, len, isEmpty, hasMemory, Reply, holds, tells, step, run}
 use Rattle.queue_laws.specs.Replies.{answerTo, answersTo}
 use Rattle.queue_laws.specs.Laws.Keeps.{Keeps}
-use Rattle.queue_laws.specs.Laws.Creation.{create-keeps, refused-keeps}
-use Rattle.queue_laws.specs.Laws.Agree.{Agree, push-agrees, release-agrees, drain-agrees}
+use Rattle.queue_laws.specs.Laws.Creation.{create-keeps, refused-keeps, long-memory}
+use Rattle.queue_laws.specs.Laws.Agree.{Agree, push-agrees, release-agrees, drain-agrees, due-agrees, len-agrees, empty-agrees}
 
 pub call-agrees : (width : ℕ) (t : Tables) (q : ImpairQueue) (p : Plain) → Keeps width t q p → (c : Call) → Agree width (answerTo width q t c) (step width p c)
 unfolding answerTo step
 call-agrees width t q p k (push due arrival route id duplicated bytes) = push-agrees width t q p k due arrival route id duplicated bytes
 call-agrees width t q p k (release now) = release-agrees width t q p k now
 call-agrees width t q p k drain = drain-agrees width t q p k
+call-agrees width t q p k nextDue = record { says = due-agrees width t q p k; keeps = k }
+call-agrees width t q p k len = record { says = ap holds (len-agrees width t q p k); keeps = k }
+call-agrees width t q p k isEmpty = record { says = ap tells (empty-agrees width t q p k); keeps = k }
+call-agrees width t q p k hasMemory = record { says = ap tells (long-memory width (q .cap) t (k .long)); keeps = k }
 
 pub calls-agree : (width : ℕ) (cs : List Call) (t : Tables) (q : ImpairQueue) (p : Plain) → Keeps width t q p → answersTo width q t cs ≡ run width p cs
 unfolding answersTo run
