@@ -26,6 +26,50 @@ pub extern "C" fn bench_device(
     cap: usize,
     count: u64,
 ) -> u64 {
+    let device = created(
+        text,
+        cap,
+        win,
+        free,
+        dues,
+        seqs,
+        arrivals,
+        routes,
+        copy_ids,
+        lengths,
+        store,
+    );
+    let ran = rounds::run(
+        device,
+        win,
+        free,
+        dues,
+        seqs,
+        arrivals,
+        routes,
+        copy_ids,
+        lengths,
+        store,
+        source,
+        sent,
+        count,
+    );
+    sums::of_ran(ran)
+}
+
+fn created(
+    text: &[u8],
+    cap: usize,
+    win: &[u32],
+    free: &[u32],
+    dues: &[f64],
+    seqs: &[u64],
+    arrivals: &[f64],
+    routes: &[u64],
+    copy_ids: &[u32],
+    lengths: &[u32],
+    store: &[u8],
+) -> Device {
     let parsed = options::parse_config(text);
     let config = parsed.config;
     let settings = config.c2s;
@@ -44,22 +88,5 @@ pub extern "C" fn bench_device(
         lengths,
         store,
     );
-    let device = created.device;
-    let ran = rounds::run(
-        device,
-        win,
-        free,
-        dues,
-        seqs,
-        arrivals,
-        routes,
-        copy_ids,
-        lengths,
-        store,
-        source,
-        sent,
-        count,
-    );
-    let after = ran.device;
-    sums::of_report(ran.sum, after.report())
+    created.device
 }

@@ -54,9 +54,9 @@ pub(crate) fn run(
         );
         device = arrived.device;
         let entered = arrived.answer;
-        sum = sums::add(sum, sums::of_arrival(entered));
+        sum = sums::with_arrival(sum, entered);
         let queue = device.queue;
-        let mut most = queue.len();
+        let mut most = queue.held;
         while 0 < most {
             let released = device.release(
                 win,

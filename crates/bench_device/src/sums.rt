@@ -1,6 +1,7 @@
 // What the calls answer, summed up, so that none of their work can be left out.
 ghost use mathlib.Core.Path.{_≡_};
 ghost use Prim.Native.Nat.{_<_};
+use crate::rounds::Ran;
 use device::ArriveAnswer;
 use device::Reported;
 use queue::Queued;
@@ -10,7 +11,7 @@ use queue::ReleaseAnswer;
 const SLOT_WIDTH: u32 = 2048;
 
 // The sum turned by five bits, so that the order counts.
-pub(crate) fn add(sum: u64, weight: u64) -> u64 {
+fn add(sum: u64, weight: u64) -> u64 {
     ((sum << 5) | (sum >> 59)) ^ weight
 }
 
@@ -27,15 +28,17 @@ fn first(bytes: &[u8]) -> u64 {
     if 0 < bytes.len() { wide(bytes[0]) } else { 256 }
 }
 
-// How many copies entered and overflowed.
-pub(crate) fn of_arrival(answer: ArriveAnswer) -> u64 {
+// The sum with how many copies entered and overflowed.
+pub(crate) fn with_arrival(sum: u64, answer: ArriveAnswer) -> u64 {
     match answer {
         ArriveAnswer::Decided {
             entered,
             overflowed,
             ..
-        } => std::num::wrapping_add_u64(entered, overflowed << 8),
-        ArriveAnswer::Refused(number) => std::num::wrapping_add_u64(number as u64, 1000),
+        } => add(sum, std::num::wrapping_add_u64(entered, overflowed << 8)),
+        ArriveAnswer::Refused(number) => {
+            add(sum, std::num::wrapping_add_u64(number as u64, 1000))
+        }
     }
 }
 
@@ -63,7 +66,7 @@ pub(crate) fn send_answer(sum: u64, store: &[u8], answer: ReleaseAnswer, sent: &
 }
 
 // How many copies more can leave, where at most `most` could: none once none is due.
-pub(crate) fn most_after(answer: ReleaseAnswer, most: usize) -> usize
+pub(crate) fn most_after(answer: ReleaseAnswer, most: u32) -> u32
     requires { ⌜ 0 < most ⌝ }
     ensures { λ r. ⌜ r < most ⌝ }
 {
@@ -74,8 +77,13 @@ pub(crate) fn most_after(answer: ReleaseAnswer, most: usize) -> usize
     }
 }
 
-// The sum with the counts and latencies of a report.
-pub(crate) fn of_report(sum: u64, report: Reported) -> u64 {
+// The sum of a run with the counts and latencies of its report.
+pub(crate) fn of_ran(ran: Ran) -> u64 {
+    let after = ran.device;
+    of_report(ran.sum, after.report())
+}
+
+fn of_report(sum: u64, report: Reported) -> u64 {
     let s = report.stats;
     let arrived = add(add(sum, s.received_pkts), s.received_bytes);
     let dropped = add(add(arrived, s.dropped_random), s.dropped_overflow);

@@ -1,22 +1,17 @@
 // Calls of the arrival engine on settings and states that no option text and no arrival makes; the file stdout has what document 01 says of them.
-mod judged;
+mod altered;
+mod calls;
+mod cases;
 mod lists;
-mod order;
-mod print;
-mod records;
-mod states;
+mod numbers;
+mod settings_of;
+mod steps_of;
+mod words;
 
 fn main() {
-    judged::floats();
-    judged::numbers();
-    judged::bursts();
-    lists::blackouts();
-    lists::kills();
-    order::decisions();
-    order::others();
-    states::credits();
-    states::refills();
-    states::generators();
-    states::rebinds();
-    states::counters();
+    cases::floats();
+    cases::numbers();
+    cases::lists();
+    cases::order();
+    cases::states();
 }

@@ -47,14 +47,8 @@ part-requires c κs = search needs
 arrive-requires : tie.Need-arrive-requires Inv-loop2 μ-loop2 Inv-loop μ-loop
 arrive-requires c κs = search needs
 
-of-arrival-requires : tie.Need-of-arrival-requires Inv-loop2 μ-loop2 Inv-loop μ-loop
-of-arrival-requires c κs = search needs
-
-add-requires : tie.Need-add-requires Inv-loop2 μ-loop2 Inv-loop μ-loop
-add-requires c κs = search needs
-
-len-requires : tie.Need-len-requires Inv-loop2 μ-loop2 Inv-loop μ-loop
-len-requires c κs = search needs
+with-arrival-requires : tie.Need-with-arrival-requires Inv-loop2 μ-loop2 Inv-loop μ-loop
+with-arrival-requires c κs = search needs
 
 loop2-holds : tie.Need-loop2-holds Inv-loop2 μ-loop2 Inv-loop μ-loop
 loop2-holds c = search needs
@@ -82,56 +76,56 @@ loop2-again c =
     )
 
 sub-left : tie.Need-sub-left Inv-loop2 μ-loop2 Inv-loop μ-loop
-sub-left c = omega (arith, c .before .before .before .before .before .before .before .before .before .before .before .before .before .before .before .before .before .before .before .before .before .before .before .before .before .before .before .before .before .before .before .before .before .before .loop-test .taken)
+sub-left c = omega (arith, c .before .before .before .before .before .before .before .before .before .before .before .before .before .before .before .before .before .before .before .before .before .before .before .before .before .before .before .before .before .before .before .before .loop-test .taken)
 
 loop-less : tie.Need-loop-less Inv-loop2 μ-loop2 Inv-loop μ-loop
-loop-less c = omega (arith, c .before .before .before .before .before .before .before .before .before .before .before .before .before .before .before .before .before .before .before .before .before .before .before .before .before .before .before .before .before .before .before .before .before .before .loop-test .taken)
+loop-less c = omega (arith, c .before .before .before .before .before .before .before .before .before .before .before .before .before .before .before .before .before .before .before .before .before .before .before .before .before .before .before .before .before .before .before .before .loop-test .taken)
 
 loop-again : tie.Need-loop-again Inv-loop2 μ-loop2 Inv-loop μ-loop
 loop-again c =
-    let inv = c .before .before .before .before .before .before .before .before .before .before .before .before .before .before .before .before .before .before .before .before .before .before .before .before .before .before .before .before .before .before .before .before .before .before .before .loop .inv in
+    let inv = c .before .before .before .before .before .before .before .before .before .before .before .before .before .before .before .before .before .before .before .before .before .before .before .before .before .before .before .before .before .before .before .before .before .loop .inv in
     let inner = c .before .loop2 .inv in (
-      inner .0 ∙ c .before .before .before .before .before .before .before .before .before .before .before .before .before .before .before .before .before .before .before .before .before .before .win .given ∙ inv .0,
+      inner .0 ∙ c .before .before .before .before .before .before .before .before .before .before .before .before .before .before .before .before .before .before .before .before .win .given ∙ inv .0,
       inner .1 ∙ inv .1,
-      inner .2 ∙ c .before .before .before .before .before .before .before .before .before .before .before .before .before .before .before .before .before .before .before .before .dues .given ∙ inv .2,
-      inner .3 ∙ c .before .before .before .before .before .before .before .before .before .before .before .before .before .before .before .before .before .before .seqs .given ∙ inv .3,
-      c .before .before .before .before .before .before .before .before .before .before .before .before .before .before .before .before .arrivals .given ∙ inv .4,
-      c .before .before .before .before .before .before .before .before .before .before .before .before .before .before .routes .given ∙ inv .5,
-      c .before .before .before .before .before .before .before .before .before .before .before .before .copy-ids .given ∙ inv .6,
-      c .before .before .before .before .before .before .before .before .before .before .lengths .given ∙ inv .7,
-      c .before .before .before .before .before .before .before .before .store .given ∙ inv .8,
+      inner .2 ∙ c .before .before .before .before .before .before .before .before .before .before .before .before .before .before .before .before .before .before .dues .given ∙ inv .2,
+      inner .3 ∙ c .before .before .before .before .before .before .before .before .before .before .before .before .before .before .before .before .seqs .given ∙ inv .3,
+      c .before .before .before .before .before .before .before .before .before .before .before .before .before .before .arrivals .given ∙ inv .4,
+      c .before .before .before .before .before .before .before .before .before .before .before .before .routes .given ∙ inv .5,
+      c .before .before .before .before .before .before .before .before .before .before .copy-ids .given ∙ inv .6,
+      c .before .before .before .before .before .before .before .before .lengths .given ∙ inv .7,
+      c .before .before .before .before .before .before .store .given ∙ inv .8,
       inner .4 ∙ inv .9,
     )
 
 same-length : tie.Need-same-length Inv-loop2 μ-loop2 Inv-loop μ-loop
-same-length c = search needs
+same-length c = c .before .loop .inv .0
 
 same-length-2 : tie.Need-same-length-2 Inv-loop2 μ-loop2 Inv-loop μ-loop
-same-length-2 c = search needs
+same-length-2 c = c .before .loop .inv .1
 
 same-length-3 : tie.Need-same-length-3 Inv-loop2 μ-loop2 Inv-loop μ-loop
-same-length-3 c = search needs
+same-length-3 c = c .before .loop .inv .2
 
 same-length-4 : tie.Need-same-length-4 Inv-loop2 μ-loop2 Inv-loop μ-loop
-same-length-4 c = search needs
+same-length-4 c = c .before .loop .inv .3
 
 same-length-5 : tie.Need-same-length-5 Inv-loop2 μ-loop2 Inv-loop μ-loop
-same-length-5 c = search needs
+same-length-5 c = c .before .loop .inv .4
 
 same-length-6 : tie.Need-same-length-6 Inv-loop2 μ-loop2 Inv-loop μ-loop
-same-length-6 c = search needs
+same-length-6 c = c .before .loop .inv .5
 
 same-length-7 : tie.Need-same-length-7 Inv-loop2 μ-loop2 Inv-loop μ-loop
-same-length-7 c = search needs
+same-length-7 c = c .before .loop .inv .6
 
 same-length-8 : tie.Need-same-length-8 Inv-loop2 μ-loop2 Inv-loop μ-loop
-same-length-8 c = search needs
+same-length-8 c = c .before .loop .inv .7
 
 same-length-9 : tie.Need-same-length-9 Inv-loop2 μ-loop2 Inv-loop μ-loop
-same-length-9 c = search needs
+same-length-9 c = c .before .loop .inv .8
 
 same-length-10 : tie.Need-same-length-10 Inv-loop2 μ-loop2 Inv-loop μ-loop
-same-length-10 c = search needs
+same-length-10 c = c .before .loop .inv .9
 
 returns : tie.Need-returns Inv-loop2 μ-loop2 Inv-loop μ-loop
 returns c = search needs
@@ -148,9 +142,7 @@ run-spec =
     cast-part
     part-requires
     arrive-requires
-    of-arrival-requires
-    add-requires
-    len-requires
+    with-arrival-requires
     loop2-holds
     release-requires
     send-answer-requires
