@@ -1,4 +1,5 @@
 // The answers of all calls as one type.
+use crate::memory::Tables;
 use queue::CreateAnswer;
 use queue::DrainAnswer;
 use queue::DueAnswer;
@@ -21,9 +22,10 @@ pub enum Answer {
     Nothing,
 }
 
-// The queue after a call, and the answer.
+// The queue and the tables after a call, and the answer.
 pub struct Answered {
     pub queue: ImpairQueue,
+    pub tables: Tables,
     pub answer: Answer,
 }
 

@@ -1,130 +1,110 @@
-// Calls on a queue over lent tables.
+// Calls on a queue over the lent part of tables and store.
 use crate::answers;
 use crate::answers::Answer;
 use crate::answers::Answered;
 use crate::calls::Call;
 use crate::calls::Copy;
+use crate::memory::Lent;
+use crate::memory::Tables;
 use queue::ImpairQueue;
 
 // Makes the call; `bytes` are those of a copy that is to enter.
 pub fn make(
     queue: ImpairQueue,
-    win: &mut [u32],
-    free: &mut [u32],
-    dues: &mut [f64],
-    seqs: &mut [u64],
-    arrivals: &mut [f64],
-    routes: &mut [u64],
-    ids: &mut [u32],
-    lengths: &mut [u32],
+    tables: Tables,
     store: &mut [u8],
+    lent: Lent,
     bytes: &[u8],
     call: Call,
 ) -> Answered {
     match call {
-        Call::Create(cap) => create(
-            cap,
-            win,
-            free,
-            dues,
-            seqs,
-            arrivals,
-            routes,
-            ids,
-            lengths,
-            store,
-        ),
-        Call::Push(copy) => push(
-            queue,
-            win,
-            free,
-            dues,
-            seqs,
-            arrivals,
-            routes,
-            ids,
-            lengths,
-            store,
-            bytes,
-            copy,
-        ),
-        Call::Release(now_ms) => release(
-            queue,
-            win,
-            free,
-            dues,
-            seqs,
-            arrivals,
-            routes,
-            ids,
-            lengths,
-            store,
-            now_ms,
-        ),
-        Call::NextDue => stays(queue, answers::due(queue.next_due(win, dues))),
-        Call::Drain => drain(queue),
-        Call::Len => stays(queue, Answer::Held(queue.len(), queue.is_empty())),
-        Call::Nothing => stays(queue, Answer::Nothing),
+        Call::Create(cap) => create(cap, tables, store, lent),
+        Call::Push(copy) => push(queue, tables, store, lent, bytes, copy),
+        Call::Release(now_ms) => release(queue, tables, store, lent, now_ms),
+        Call::NextDue => stays(queue, tables, next_due(queue, tables, lent)),
+        Call::Drain => drain(queue, tables),
+        Call::Len => stays(queue, tables, Answer::Held(queue.len(), queue.is_empty())),
+        Call::Nothing => stays(queue, tables, Answer::Nothing),
     }
 }
 
-fn stays(queue: ImpairQueue, answer: Answer) -> Answered {
-    Answered { queue, answer }
+fn stays(queue: ImpairQueue, tables: Tables, answer: Answer) -> Answered {
+    Answered {
+        queue,
+        tables,
+        answer,
+    }
 }
 
-fn create(
-    cap: usize,
-    win: &[u32],
-    free: &[u32],
-    dues: &[f64],
-    seqs: &[u64],
-    arrivals: &[f64],
-    routes: &[u64],
-    ids: &[u32],
-    lengths: &[u32],
-    store: &[u8],
-) -> Answered {
+// The creation of a queue, which no queue comes before.
+pub fn create(cap: usize, tables: Tables, store: &[u8], lent: Lent) -> Answered {
+    let win = tables.win;
+    let win_part = lent.words(&win, 1);
+    let free = tables.free;
+    let free_part = lent.words(&free, 2);
+    let dues = tables.dues;
+    let dues_part = lent.floats(&dues, 3);
+    let seqs = tables.seqs;
+    let seqs_part = lent.longs(&seqs, 4);
+    let arrivals = tables.arrivals;
+    let arrivals_part = lent.floats(&arrivals, 5);
+    let routes = tables.routes;
+    let routes_part = lent.longs(&routes, 6);
+    let ids = tables.ids;
+    let ids_part = lent.words(&ids, 7);
+    let lengths = tables.lengths;
+    let lengths_part = lent.words(&lengths, 8);
     let made = ImpairQueue::create(
         cap,
-        win,
-        free,
-        dues,
-        seqs,
-        arrivals,
-        routes,
-        ids,
-        lengths,
-        store,
+        win_part,
+        free_part,
+        dues_part,
+        seqs_part,
+        arrivals_part,
+        routes_part,
+        ids_part,
+        lengths_part,
+        lent.bytes(store),
     );
     let queue = made.queue;
     let answer = made.answer;
-    stays(queue, answers::created(answer))
+    stays(queue, tables, answers::created(answer))
 }
 
 fn push(
     queue: ImpairQueue,
-    win: &mut [u32],
-    free: &[u32],
-    dues: &mut [f64],
-    seqs: &mut [u64],
-    arrivals: &mut [f64],
-    routes: &mut [u64],
-    ids: &mut [u32],
-    lengths: &mut [u32],
+    tables: Tables,
     store: &mut [u8],
+    lent: Lent,
     bytes: &[u8],
     copy: Copy,
 ) -> Answered {
+    let mut win = tables.win;
+    let win_part = lent.words_mut(&mut win, 1);
+    let free = tables.free;
+    let free_part = lent.words(&free, 2);
+    let mut dues = tables.dues;
+    let dues_part = lent.floats_mut(&mut dues, 3);
+    let mut seqs = tables.seqs;
+    let seqs_part = lent.longs_mut(&mut seqs, 4);
+    let mut arrivals = tables.arrivals;
+    let arrivals_part = lent.floats_mut(&mut arrivals, 5);
+    let mut routes = tables.routes;
+    let routes_part = lent.longs_mut(&mut routes, 6);
+    let mut ids = tables.ids;
+    let ids_part = lent.words_mut(&mut ids, 7);
+    let mut lengths = tables.lengths;
+    let lengths_part = lent.words_mut(&mut lengths, 8);
     let pushed = queue.push(
-        win,
-        free,
-        dues,
-        seqs,
-        arrivals,
-        routes,
-        ids,
-        lengths,
-        store,
+        win_part,
+        free_part,
+        dues_part,
+        seqs_part,
+        arrivals_part,
+        routes_part,
+        ids_part,
+        lengths_part,
+        lent.bytes_mut(store),
         copy.due_ms,
         copy.arrival_ms,
         copy.route,
@@ -134,23 +114,7 @@ fn push(
     );
     let after = pushed.queue;
     let answer = pushed.answer;
-    stays(after, answers::pushed(answer))
-}
-
-fn release(
-    queue: ImpairQueue,
-    win: &mut [u32],
-    free: &mut [u32],
-    dues: &mut [f64],
-    seqs: &mut [u64],
-    arrivals: &[f64],
-    routes: &[u64],
-    ids: &[u32],
-    lengths: &[u32],
-    store: &[u8],
-    now_ms: f64,
-) -> Answered {
-    let released = queue.release(
+    let left = Tables {
         win,
         free,
         dues,
@@ -159,17 +123,63 @@ fn release(
         routes,
         ids,
         lengths,
-        store,
+    };
+    stays(after, left, answers::pushed(answer))
+}
+
+fn release(queue: ImpairQueue, tables: Tables, store: &[u8], lent: Lent, now_ms: f64) -> Answered {
+    let mut win = tables.win;
+    let win_part = lent.words_mut(&mut win, 1);
+    let mut free = tables.free;
+    let free_part = lent.words_mut(&mut free, 2);
+    let mut dues = tables.dues;
+    let dues_part = lent.floats_mut(&mut dues, 3);
+    let mut seqs = tables.seqs;
+    let seqs_part = lent.longs_mut(&mut seqs, 4);
+    let arrivals = tables.arrivals;
+    let arrivals_part = lent.floats(&arrivals, 5);
+    let routes = tables.routes;
+    let routes_part = lent.longs(&routes, 6);
+    let ids = tables.ids;
+    let ids_part = lent.words(&ids, 7);
+    let lengths = tables.lengths;
+    let lengths_part = lent.words(&lengths, 8);
+    let released = queue.release(
+        win_part,
+        free_part,
+        dues_part,
+        seqs_part,
+        arrivals_part,
+        routes_part,
+        ids_part,
+        lengths_part,
+        lent.bytes(store),
         now_ms,
     );
     let after = released.queue;
     let answer = released.answer;
-    stays(after, answers::released(answer))
+    let left = Tables {
+        win,
+        free,
+        dues,
+        seqs,
+        arrivals,
+        routes,
+        ids,
+        lengths,
+    };
+    stays(after, left, answers::released(answer))
 }
 
-fn drain(queue: ImpairQueue) -> Answered {
+fn next_due(queue: ImpairQueue, tables: Tables, lent: Lent) -> Answer {
+    let win = tables.win;
+    let dues = tables.dues;
+    answers::due(queue.next_due(lent.words(&win, 1), lent.floats(&dues, 3)))
+}
+
+fn drain(queue: ImpairQueue, tables: Tables) -> Answered {
     let drained = queue.drain();
     let after = drained.queue;
     let answer = drained.answer;
-    stays(after, answers::drained(answer))
+    stays(after, tables, answers::drained(answer))
 }

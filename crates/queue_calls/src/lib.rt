@@ -2,6 +2,7 @@
 mod answers;
 mod calls;
 mod lent;
+mod memory;
 mod words;
 
 pub use answers::Answer;
@@ -9,5 +10,8 @@ pub use answers::Answered;
 pub use answers::released;
 pub use calls::Call;
 pub use calls::Copy;
+pub use lent::create;
 pub use lent::make;
+pub use memory::Lent;
+pub use memory::Tables;
 pub use words::say;

@@ -1,15 +1,13 @@
 // A line for each case: the call, the name of the case, the answer to a call over memory that holds zeros, and the state after it: capacity, held and next seq.
-use crate::lend;
-use crate::lend::Lent;
 use crate::states;
 use output::collected;
 use queue::ImpairQueue;
 use queue_calls::Answer;
-use queue_calls::Answered;
 use queue_calls::Call;
 use queue_calls::Copy;
+use queue_calls::Tables;
 
-// Memory for two copies is lent; table number `short`, as in lend, has one entry less.
+// Memory for two copies is lent; table number `short` has one entry less.
 pub fn create(name: &[u8], short: u32, cap: usize) {
     output::text(b"create ");
     line(name, states::empty(0), short, Call::Create(cap), 0);
@@ -43,38 +41,23 @@ pub fn drain(name: &[u8], queue: ImpairQueue) {
 
 // The copy of a push has n bytes.
 fn line(name: &[u8], queue: ImpairQueue, short: u32, call: Call, n: usize) {
-    let mut win = [0u32; 16];
-    let mut free = [0u32; 16];
-    let mut dues = [0.0f64; 16];
-    let mut seqs = [0u64; 16];
-    let mut arrivals = [0.0f64; 16];
-    let mut routes = [0u64; 16];
-    let mut ids = [0u32; 16];
-    let mut lengths = [0u32; 16];
     let mut store = [0u8; 16392];
     let bytes = [0u8; 4096];
-    let answered = lend::make(
+    let answered = queue_calls::make(
         queue,
-        Lent { entries: 2, short },
-        &mut win,
-        &mut free,
-        &mut dues,
-        &mut seqs,
-        &mut arrivals,
-        &mut routes,
-        &mut ids,
-        &mut lengths,
+        Tables::new(),
         &mut store,
+        states::two_lent(short),
         values::front(&bytes, n),
         call,
     );
-    print(name, answered);
+    let left = answered.queue;
+    let answer = answered.answer;
+    print(name, left, answer);
 }
 
-pub fn print(name: &[u8], answered: Answered) {
+pub fn print(name: &[u8], queue: ImpairQueue, answer: Answer) {
     output::text(name);
-    let queue = answered.queue;
-    let answer = answered.answer;
     words(answer);
     output::text(b"; queue");
     output::count(queue.cap as u64);

@@ -1,9 +1,9 @@
 // The state, the lent memory and the call of a seed.
-use crate::lend::Lent;
 use crate::scatter;
 use queue::ImpairQueue;
 use queue_calls::Call;
 use queue_calls::Copy;
+use queue_calls::Lent;
 
 // The state that the last call left, one whose fields can stand together, or one whose fields are drawn each by itself.
 pub fn queue_of(left: ImpairQueue, seed: u64) -> ImpairQueue {
@@ -66,12 +66,13 @@ fn seq_of(n: u64) -> u64 {
     }
 }
 
-// Mostly eight entries of each table; at times fewer, or one table that has one less.
+// From entry 8 on mostly eight entries of each table; at times fewer, or one table that has one less.
 pub fn lent_of(seed: u64) -> Lent {
     let n = draws::mix(seed, 36);
     Lent {
+        start: 8,
         entries: match n % 8 {
-            0 => (n / 8 % 9) as usize,
+            0 => (n / 8 % 9) as u32,
             _ => 8,
         },
         short: match n / 128 % 4 {

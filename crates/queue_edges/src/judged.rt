@@ -1,77 +1,37 @@
 // One call, and whether it kept what it had to keep.
-use crate::lend;
-use crate::lend::Lent;
 use crate::marks;
 use crate::marks::Marks;
 use queue::ImpairQueue;
 use queue_calls::Answer;
 use queue_calls::Call;
+use queue_calls::Lent;
+use queue_calls::Tables;
 
-// The queue after the call, the answer, and whether all was kept.
+// The queue and the tables after the call, the answer, and whether all was kept.
 pub struct Judged {
     pub queue: ImpairQueue,
+    pub tables: Tables,
     pub answer: Answer,
     pub kept: bool,
 }
 
 pub(crate) fn make(
     queue: ImpairQueue,
-    lent: Lent,
-    win: &mut [u32; 24],
-    free: &mut [u32; 24],
-    dues: &mut [f64; 24],
-    seqs: &mut [u64; 24],
-    arrivals: &mut [f64; 24],
-    routes: &mut [u64; 24],
-    ids: &mut [u32; 24],
-    lengths: &mut [u32; 24],
+    tables: Tables,
     store: &mut [u8; 16400],
+    lent: Lent,
     bytes: &[u8],
     call: Call,
 ) -> Judged {
-    let before = marks::of(
-        lent,
-        win,
-        free,
-        dues,
-        seqs,
-        arrivals,
-        routes,
-        ids,
-        lengths,
-        store,
-    );
-    let answered = lend::make(
-        queue,
-        lent,
-        win,
-        free,
-        dues,
-        seqs,
-        arrivals,
-        routes,
-        ids,
-        lengths,
-        store,
-        bytes,
-        call,
-    );
-    let after = marks::of(
-        lent,
-        win,
-        free,
-        dues,
-        seqs,
-        arrivals,
-        routes,
-        ids,
-        lengths,
-        store,
-    );
+    let before = marks::of(lent, tables, store);
+    let answered = queue_calls::make(queue, tables, store, lent, bytes, call);
     let left = answered.queue;
+    let left_tables = answered.tables;
     let answer = answered.answer;
+    let after = marks::of(lent, left_tables, store);
     Judged {
         queue: left,
+        tables: left_tables,
         answer,
         kept: is_kept(answer, before, after, is_same(queue, left)),
     }

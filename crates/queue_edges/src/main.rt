@@ -5,7 +5,6 @@ mod case;
 mod chosen;
 mod creations;
 mod judged;
-mod lend;
 mod limits;
 mod marks;
 mod memory;

@@ -1,5 +1,6 @@
 // What memory holds, as two numbers.
-use crate::lend::Lent;
+use queue_calls::Lent;
+use queue_calls::Tables;
 use script::payload;
 
 // The sums of what is lent and of what lies around it.
@@ -18,48 +19,54 @@ impl Marks {
     }
 }
 
-pub fn of(
-    lent: Lent,
-    win: &[u32],
-    free: &[u32],
-    dues: &[f64],
-    seqs: &[u64],
-    arrivals: &[f64],
-    routes: &[u64],
-    ids: &[u32],
-    lengths: &[u32],
-    store: &[u8],
-) -> Marks {
-    let tree = words(win, lent.end(1))
-        .and(words(free, lent.end(2)))
-        .and(floats(dues, lent.end(3)))
-        .and(longs(seqs, lent.end(4)));
-    let rows = floats(arrivals, lent.end(5))
-        .and(longs(routes, lent.end(6)))
-        .and(words(ids, lent.end(7)))
-        .and(words(lengths, lent.end(8)));
-    tree.and(rows).and(stored(store, lent.store_end()))
+pub fn of(lent: Lent, tables: Tables, store: &[u8]) -> Marks {
+    tree(lent, tables).and(rows(lent, tables))
+        .and(stored(store, lent.store_end()))
+}
+
+// The tables that the tree is read from.
+fn tree(lent: Lent, tables: Tables) -> Marks {
+    let win = tables.win;
+    let free = tables.free;
+    let dues = tables.dues;
+    let seqs = tables.seqs;
+    words(&win, lent.end(1))
+        .and(words(&free, lent.end(2)))
+        .and(floats(&dues, lent.end(3)))
+        .and(longs(&seqs, lent.end(4)))
+}
+
+// The tables of what else a copy has.
+fn rows(lent: Lent, tables: Tables) -> Marks {
+    let arrivals = tables.arrivals;
+    let routes = tables.routes;
+    let ids = tables.ids;
+    let lengths = tables.lengths;
+    floats(&arrivals, lent.end(5))
+        .and(longs(&routes, lent.end(6)))
+        .and(words(&ids, lent.end(7)))
+        .and(words(&lengths, lent.end(8)))
 }
 
 // Each table is lent from entry 8 up to `end`.
-fn words(t: &[u32], end: usize) -> Marks {
+fn words(t: &[u32; 256], end: usize) -> Marks {
     Marks {
         lent: words_sum(t, 8, end),
-        around: mixed(words_sum(t, 0, 8), words_sum(t, end, t.len())),
+        around: mixed(words_sum(t, 0, 8), words_sum(t, end, 256)),
     }
 }
 
-fn longs(t: &[u64], end: usize) -> Marks {
+fn longs(t: &[u64; 256], end: usize) -> Marks {
     Marks {
         lent: longs_sum(t, 8, end),
-        around: mixed(longs_sum(t, 0, 8), longs_sum(t, end, t.len())),
+        around: mixed(longs_sum(t, 0, 8), longs_sum(t, end, 256)),
     }
 }
 
-fn floats(t: &[f64], end: usize) -> Marks {
+fn floats(t: &[f64; 256], end: usize) -> Marks {
     Marks {
         lent: floats_sum(t, 8, end),
-        around: mixed(floats_sum(t, 0, 8), floats_sum(t, end, t.len())),
+        around: mixed(floats_sum(t, 0, 8), floats_sum(t, end, 256)),
     }
 }
 

@@ -1,82 +1,66 @@
-// Memory is altered: all tables are drawn anew, or one entry is.
-pub fn some(
-    win: &mut [u32; 24],
-    free: &mut [u32; 24],
-    dues: &mut [f64; 24],
-    seqs: &mut [u64; 24],
-    arrivals: &mut [f64; 24],
-    routes: &mut [u64; 24],
-    ids: &mut [u32; 24],
-    lengths: &mut [u32; 24],
-    store: &mut [u8; 16400],
-    seed: u64,
-) {
+// Memory is altered: all of it is drawn anew, or one entry of each table that the tree is read from.
+use queue_calls::Tables;
+use script::payload;
+
+pub fn some(tables: Tables, seed: u64) -> Tables {
     match draws::mix(seed, 10) % 4 {
-        0 => all(
-            win,
-            free,
-            dues,
-            seqs,
-            arrivals,
-            routes,
-            ids,
-            lengths,
-            store,
-            seed,
-        ),
-        1 => one_of_keys(win, free, dues, seqs, seed),
-        _ => {}
+        0 => all(seed),
+        1 => one_of_keys(tables, seed),
+        _ => tables,
     }
 }
 
-fn all(
-    win: &mut [u32; 24],
-    free: &mut [u32; 24],
-    dues: &mut [f64; 24],
-    seqs: &mut [u64; 24],
-    arrivals: &mut [f64; 24],
-    routes: &mut [u64; 24],
-    ids: &mut [u32; 24],
-    lengths: &mut [u32; 24],
-    store: &mut [u8; 16400],
-    seed: u64,
-) {
-    words(win, draws::mix(seed, 11));
-    words(free, draws::mix(seed, 12));
-    floats(dues, draws::mix(seed, 13));
-    longs(seqs, draws::mix(seed, 14));
-    floats(arrivals, draws::mix(seed, 15));
-    longs(routes, draws::mix(seed, 16));
-    words(ids, draws::mix(seed, 17));
-    words(lengths, draws::mix(seed, 18));
-    script::payload::fill(store, 16400, draws::mix(seed, 19));
+// The store, where all is drawn anew.
+pub fn stored(store: &mut [u8; 16400], seed: u64) {
+    if draws::mix(seed, 10) % 4 == 0 {
+        payload::fill(store, 16400, draws::mix(seed, 19));
+    }
 }
 
-// One entry of each table that the tree is read from.
-fn one_of_keys(win: &mut [u32], free: &mut [u32], dues: &mut [f64], seqs: &mut [u64], seed: u64) {
+fn all(seed: u64) -> Tables {
+    Tables {
+        win: words(draws::mix(seed, 11)),
+        free: words(draws::mix(seed, 12)),
+        dues: floats(draws::mix(seed, 13)),
+        seqs: longs(draws::mix(seed, 14)),
+        arrivals: floats(draws::mix(seed, 15)),
+        routes: longs(draws::mix(seed, 16)),
+        ids: words(draws::mix(seed, 17)),
+        lengths: words(draws::mix(seed, 18)),
+    }
+}
+
+fn one_of_keys(mut tables: Tables, seed: u64) -> Tables {
     let at = (draws::mix(seed, 20) % 24) as usize;
-    tables::set_u32(win, at, word_of(draws::mix(seed, 21)));
-    tables::set_u32(free, at, word_of(draws::mix(seed, 22)));
-    tables::set_f64(dues, at, float_of(draws::mix(seed, 23)));
-    tables::set_u64(seqs, at, long_of(draws::mix(seed, 24)));
+    tables.win[at] = word_of(draws::mix(seed, 21));
+    tables.free[at] = word_of(draws::mix(seed, 22));
+    tables.dues[at] = float_of(draws::mix(seed, 23));
+    tables.seqs[at] = long_of(draws::mix(seed, 24));
+    tables
 }
 
-fn words(t: &mut [u32], seed: u64) {
-    for i in 0..24usize {
-        tables::set_u32(t, i, word_of(draws::mix(seed, i as u64)));
+fn words(seed: u64) -> [u32; 256] {
+    let mut t = [0u32; 256];
+    for i in 0..256usize {
+        t[i] = word_of(draws::mix(seed, i as u64));
     }
+    t
 }
 
-fn longs(t: &mut [u64], seed: u64) {
-    for i in 0..24usize {
-        tables::set_u64(t, i, long_of(draws::mix(seed, i as u64)));
+fn longs(seed: u64) -> [u64; 256] {
+    let mut t = [0u64; 256];
+    for i in 0..256usize {
+        t[i] = long_of(draws::mix(seed, i as u64));
     }
+    t
 }
 
-fn floats(t: &mut [f64], seed: u64) {
-    for i in 0..24usize {
-        tables::set_f64(t, i, float_of(draws::mix(seed, i as u64)));
+fn floats(seed: u64) -> [f64; 256] {
+    let mut t = [0.0f64; 256];
+    for i in 0..256usize {
+        t[i] = float_of(draws::mix(seed, i as u64));
     }
+    t
 }
 
 // Most are small enough for a slot.

@@ -1,47 +1,31 @@
 // The last two seqs go to copies that are due at no instant: they are held like any other, and then every call is refused. A next seq that is set back shows
 // both.
 use crate::case;
-use crate::lend;
-use crate::lend::Lent;
 use crate::states;
 use crate::states::TOO_MANY;
 use queue::ImpairQueue;
 use queue_calls::Call;
 use queue_calls::Copy;
+use queue_calls::Tables;
 
 // One call after the other over the same memory.
 pub fn run() {
-    let mut win = [0u32; 16];
-    let mut free = [0u32; 16];
-    let mut dues = [0.0f64; 16];
-    let mut seqs = [0u64; 16];
-    let mut arrivals = [0.0f64; 16];
-    let mut routes = [0u64; 16];
-    let mut ids = [0u32; 16];
-    let mut lengths = [0u32; 16];
+    let mut tables = Tables::new();
     let mut store = [0u8; 16392];
     let mut queue = states::empty(TOO_MANY - 2);
     for step in 0..13u64 {
-        let answered = lend::make(
+        let answered = queue_calls::make(
             before(queue, step),
-            Lent {
-                entries: 2,
-                short: 0,
-            },
-            &mut win,
-            &mut free,
-            &mut dues,
-            &mut seqs,
-            &mut arrivals,
-            &mut routes,
-            &mut ids,
-            &mut lengths,
+            tables,
             &mut store,
+            states::two_lent(0),
             b"abc",
             call_at(step),
         );
         queue = answered.queue;
-        case::print(b"last seqs", answered);
+        tables = answered.tables;
+        let answer = answered.answer;
+        case::print(b"last seqs", queue, answer);
     }
 }
 

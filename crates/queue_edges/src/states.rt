@@ -1,5 +1,6 @@
-// States of a queue of capacity 2, and floats.
+// States of a queue of capacity 2, memory for it, and floats.
 use queue::ImpairQueue;
+use queue_calls::Lent;
 
 // The least number that no next seq may have.
 pub const TOO_MANY: u64 = 0x1000_0000_0000_0000;
@@ -33,6 +34,15 @@ pub fn with_held(held: u32, next_seq: u64) -> ImpairQueue {
         next_seq,
         leaves: held,
         opened: held,
+    }
+}
+
+// Memory for two copies; table number `short` has one entry less.
+pub fn two_lent(short: u32) -> Lent {
+    Lent {
+        start: 8,
+        entries: 2,
+        short,
     }
 }
 

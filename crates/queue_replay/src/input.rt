@@ -3,6 +3,8 @@ use crate::requests;
 use output::collected;
 use queue::ImpairQueue;
 use queue_calls::Answer;
+use queue_calls::Lent;
+use queue_calls::Tables;
 use script::Event;
 use script::Source;
 use script::answers;
@@ -10,22 +12,15 @@ use script::payload;
 
 // Before the first line the queue has capacity 1.
 pub fn run(
-    chunk: &mut [u8],
-    kept: &mut [u8],
-    out: &mut [u8],
-    bytes: &mut [u8],
-    win: &mut [u32],
-    free: &mut [u32],
-    dues: &mut [f64],
-    seqs: &mut [u64],
-    arrivals: &mut [f64],
-    routes: &mut [u64],
-    ids: &mut [u32],
-    lengths: &mut [u32],
-    store: &mut [u8],
+    chunk: &mut [u8; 65536],
+    kept: &mut [u8; 65536],
+    out: &mut [u8; 65536],
+    bytes: &mut [u8; 4096],
+    store: &mut [u8; 524288],
 ) {
     let mut source = Source::new();
     let mut queue = first();
+    let mut tables = Tables::new();
     let mut at = 0;
     let mut turns = u64::MAX;
     while turns > 0 {
@@ -37,19 +32,14 @@ pub fn run(
         let call = request.call;
         let answered = queue_calls::make(
             queue,
-            win,
-            free,
-            dues,
-            seqs,
-            arrivals,
-            routes,
-            ids,
-            lengths,
+            tables,
             store,
+            Lent::first(256),
             values::front(bytes, n),
             call,
         );
         queue = answered.queue;
+        tables = answered.tables;
         let answer = answered.answer;
         at = answer_line(out, at, event, answer, store);
         turns = script::turns_after(turns, event);

@@ -3,34 +3,12 @@ mod input;
 mod requests;
 mod words;
 
-// The buffers and the queue's memory, which has room for 256 copies, are lent from here. There are more bytes for a copy than it may have.
+// The buffers and the store, which has room for 256 copies, are lent from here. There are more bytes for a copy than it may have.
 fn main() {
     let mut chunk = io::large_buffer();
     let mut kept = io::large_buffer();
     let mut out = io::large_buffer();
     let mut bytes = [0u8; 4096];
-    let mut win = [0u32; 256];
-    let mut free = [0u32; 256];
-    let mut dues = [0.0f64; 256];
-    let mut seqs = [0u64; 256];
-    let mut arrivals = [0.0f64; 256];
-    let mut routes = [0u64; 256];
-    let mut ids = [0u32; 256];
-    let mut lengths = [0u32; 256];
     let mut store = [0u8; 524288];
-    input::run(
-        &mut chunk,
-        &mut kept,
-        &mut out,
-        &mut bytes,
-        &mut win,
-        &mut free,
-        &mut dues,
-        &mut seqs,
-        &mut arrivals,
-        &mut routes,
-        &mut ids,
-        &mut lengths,
-        &mut store,
-    );
+    input::run(&mut chunk, &mut kept, &mut out, &mut bytes, &mut store);
 }

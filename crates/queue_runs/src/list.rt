@@ -1,15 +1,18 @@
-// A queue as a plain list: what it holds stands at the front of lent tables in no order, and the least is found by a scan.
+// A queue as a plain list: what it holds stands at the front of its tables in no order, and the least is found by a scan.
 use crate::draw;
 use queue::Queued;
 use queue_calls::Answer;
 use queue_calls::Call;
 use queue_calls::Copy;
 
-// How many copies are held, how many may be, and the next seq.
+// How many copies are held, how many may be, the next seq, and of each copy the due, the seq and its seed.
 pub struct List {
     pub held: u64,
     pub cap: u64,
     pub next_seq: u64,
+    pub dues: [f64; 64],
+    pub seqs: [u64; 64],
+    pub seeds: [u64; 64],
 }
 
 // The list after a call, the answer, and the seed of a copy that left, else 0.
@@ -25,23 +28,19 @@ impl List {
             held: 0,
             cap,
             next_seq: 0,
+            dues: [0.0f64; 64],
+            seqs: [0u64; 64],
+            seeds: [0u64; 64],
         }
     }
 
     // Makes the call; `seed` is that of a copy that is to enter.
-    pub fn make(
-        self,
-        dues: &mut [f64],
-        seqs: &mut [u64],
-        seeds: &mut [u64],
-        seed: u64,
-        call: Call,
-    ) -> Listed {
+    pub fn make(self, seed: u64, call: Call) -> Listed {
         match call {
             Call::Create(_) => self.stays(Answer::Nothing),
-            Call::Push(copy) => self.push(dues, seqs, seeds, seed, copy),
-            Call::Release(now_ms) => self.release(dues, seqs, seeds, now_ms),
-            Call::NextDue => self.stays(self.due(dues, seqs)),
+            Call::Push(copy) => self.push(seed, copy),
+            Call::Release(now_ms) => self.release(now_ms),
+            Call::NextDue => self.stays(self.due()),
             Call::Drain => self.drain(),
             Call::Len => self.stays(Answer::Held(self.held as usize, self.held == 0)),
             Call::Nothing => self.stays(Answer::Nothing),
@@ -56,94 +55,92 @@ impl List {
         }
     }
 
-    fn push(
-        self,
-        dues: &mut [f64],
-        seqs: &mut [u64],
-        seeds: &mut [u64],
-        seed: u64,
-        copy: Copy,
-    ) -> Listed {
+    fn push(self, seed: u64, copy: Copy) -> Listed {
         if self.held == self.cap {
             return self.stays(Answer::Refused(numbers::REFUSED_FULL));
         }
-        put(
-            dues,
-            seqs,
-            seeds,
-            self.held as usize,
-            copy.due_ms,
-            self.next_seq,
-            seed,
-        );
+        let mut list = self.with(self.held as usize, copy.due_ms, self.next_seq, seed);
+        list.held = std::num::wrapping_add_u64(self.held, 1);
+        list.next_seq = std::num::wrapping_add_u64(self.next_seq, 1);
         Listed {
-            list: List {
-                held: std::num::wrapping_add_u64(self.held, 1),
-                cap: self.cap,
-                next_seq: std::num::wrapping_add_u64(self.next_seq, 1),
-            },
+            list,
             answer: Answer::Entered(self.next_seq),
             seed: 0,
         }
     }
 
-    fn release(self, dues: &mut [f64], seqs: &mut [u64], seeds: &mut [u64], now_ms: f64) -> Listed {
-        let at = self.least(dues, seqs);
-        let due_ms = tables::get_f64(dues, at);
+    // The last copy takes the place of the one that leaves.
+    fn release(self, now_ms: f64) -> Listed {
+        let at = self.least();
+        let due_ms = self.due_at(at);
         if self.held == 0 || now_ms < due_ms {
             return self.stays(Answer::NoneDue);
         }
-        let seq = tables::get_u64(seqs, at);
-        let seed = tables::get_u64(seeds, at);
-        let last = std::num::wrapping_sub_u64(self.held, 1);
-        let from = last as usize;
-        put(
-            dues,
-            seqs,
-            seeds,
-            at,
-            tables::get_f64(dues, from),
-            tables::get_u64(seqs, from),
-            tables::get_u64(seeds, from),
-        );
+        let seed = self.seed_at(at);
+        let held = std::num::wrapping_sub_u64(self.held, 1);
+        let last = held as usize;
+        let mut list = self.with(at, self.due_at(last), self.seq_at(last), self.seed_at(last));
+        list.held = held;
         Listed {
-            list: List {
-                held: last,
-                cap: self.cap,
-                next_seq: self.next_seq,
-            },
-            answer: Answer::Released(queued(due_ms, seq, seed)),
+            list,
+            answer: Answer::Released(queued(due_ms, self.seq_at(at), seed)),
             seed,
         }
     }
 
-    fn due(self, dues: &[f64], seqs: &[u64]) -> Answer {
+    fn due(self) -> Answer {
         if self.held == 0 {
             return Answer::Empty;
         }
-        Answer::Due(tables::get_f64(dues, self.least(dues, seqs)))
+        Answer::Due(self.due_at(self.least()))
     }
 
-    fn drain(self) -> Listed {
-        Listed {
-            list: List {
-                held: 0,
-                cap: self.cap,
-                next_seq: self.next_seq,
-            },
-            answer: Answer::Drained(self.held as usize),
-            seed: 0,
-        }
+    fn drain(mut self) -> Listed {
+        let answer = Answer::Drained(self.held as usize);
+        self.held = 0;
+        self.stays(answer)
     }
 
     // Where the copy with the least (due, seq) stands.
-    fn least(self, dues: &[f64], seqs: &[u64]) -> usize {
-        let mut best = 0;
-        for i in 1..self.held {
-            best = lesser(dues, seqs, i as usize, best);
-        }
-        best
+    fn least(self) -> usize {
+        let dues = self.dues;
+        let seqs = self.seqs;
+        least_of(&dues, &seqs, self.held)
     }
+
+    fn due_at(self, at: usize) -> f64 {
+        let dues = self.dues;
+        tables::get_f64(&dues, at)
+    }
+
+    fn seq_at(self, at: usize) -> u64 {
+        let seqs = self.seqs;
+        tables::get_u64(&seqs, at)
+    }
+
+    fn seed_at(self, at: usize) -> u64 {
+        let seeds = self.seeds;
+        tables::get_u64(&seeds, at)
+    }
+
+    // A copy stands at a place.
+    fn with(mut self, at: usize, due_ms: f64, seq: u64, seed: u64) -> List {
+        if at < 64 {
+            self.dues[at] = due_ms;
+            self.seqs[at] = seq;
+            self.seeds[at] = seed;
+        }
+        self
+    }
+}
+
+// Where the least (due, seq) of the first entries stands.
+fn least_of(dues: &[f64], seqs: &[u64], held: u64) -> usize {
+    let mut best = 0;
+    for i in 1..held {
+        best = lesser(dues, seqs, i as usize, best);
+    }
+    best
 }
 
 // The place of a and b at which the lesser (due, seq) stands.
@@ -161,20 +158,6 @@ fn lesser(dues: &[f64], seqs: &[u64], a: usize, b: usize) -> usize {
     } else {
         b
     }
-}
-
-fn put(
-    dues: &mut [f64],
-    seqs: &mut [u64],
-    seeds: &mut [u64],
-    at: usize,
-    due_ms: f64,
-    seq: u64,
-    seed: u64,
-) {
-    tables::set_f64(dues, at, due_ms);
-    tables::set_u64(seqs, at, seq);
-    tables::set_u64(seeds, at, seed);
 }
 
 // The copy of a seed as it leaves; its bytes are to lie in slot 0.

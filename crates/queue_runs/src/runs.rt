@@ -1,76 +1,27 @@
 // A queue and a list get the same calls.
 use crate::draw;
-use crate::list;
 use crate::list::List;
 use crate::tally::Tally;
 use draws::Rng;
-use queue::ImpairQueue;
 use queue_calls::Answer;
+use queue_calls::Lent;
+use queue_calls::Tables;
 use script::payload;
 
-// The memory of the queue, with room for 64 copies, and of the list is lent from here.
+// The queue's store is lent from here, and the bytes of a copy.
 pub fn run(cap: u32) {
-    let mut win = [0u32; 64];
-    let mut free = [0u32; 64];
-    let mut dues = [0.0f64; 64];
-    let mut seqs = [0u64; 64];
-    let mut arrivals = [0.0f64; 64];
-    let mut routes = [0u64; 64];
-    let mut ids = [0u32; 64];
-    let mut lengths = [0u32; 64];
     let mut store = [0u8; 131072];
     let mut bytes = [0u8; 2048];
-    let mut list_dues = [0.0f64; 64];
-    let mut list_seqs = [0u64; 64];
-    let mut list_seeds = [0u64; 64];
-    let tally = compared(
-        cap,
-        &mut win,
-        &mut free,
-        &mut dues,
-        &mut seqs,
-        &mut arrivals,
-        &mut routes,
-        &mut ids,
-        &mut lengths,
-        &mut store,
-        &mut bytes,
-        &mut list_dues,
-        &mut list_seqs,
-        &mut list_seeds,
-    );
+    let tally = compared(cap, &mut store, &mut bytes);
     tally.print(cap);
 }
 
-// Makes 20,000 calls.
-fn compared(
-    cap: u32,
-    win: &mut [u32],
-    free: &mut [u32],
-    dues: &mut [f64],
-    seqs: &mut [u64],
-    arrivals: &mut [f64],
-    routes: &mut [u64],
-    ids: &mut [u32],
-    lengths: &mut [u32],
-    store: &mut [u8],
-    bytes: &mut [u8],
-    list_dues: &mut [f64],
-    list_seqs: &mut [u64],
-    list_seeds: &mut [u64],
-) -> Tally {
-    let mut queue = new(
-        cap,
-        win,
-        free,
-        dues,
-        seqs,
-        arrivals,
-        routes,
-        ids,
-        lengths,
-        store,
-    );
+// Makes 20,000 calls over memory for 64 copies.
+fn compared(cap: u32, store: &mut [u8; 131072], bytes: &mut [u8; 2048]) -> Tally {
+    let lent = Lent::first(64);
+    let created = queue_calls::create(cap as usize, Tables::new(), store, lent);
+    let mut queue = created.queue;
+    let mut tables = created.tables;
     let mut list = List::new(cap as u64);
     let mut rng = Rng::new(cap as u64);
     let mut tally = Tally::new();
@@ -79,22 +30,10 @@ fn compared(
         rng = drawn.rng;
         let call = drawn.call;
         let n = payload::fill(bytes, draw::length_of(drawn.seed), drawn.seed);
-        let answered = queue_calls::make(
-            queue,
-            win,
-            free,
-            dues,
-            seqs,
-            arrivals,
-            routes,
-            ids,
-            lengths,
-            store,
-            values::front(bytes, n),
-            call,
-        );
+        let answered = queue_calls::make(queue, tables, store, lent, values::front(bytes, n), call);
         queue = answered.queue;
-        let listed = list.make(list_dues, list_seqs, list_seeds, drawn.seed, call);
+        tables = answered.tables;
+        let listed = list.make(drawn.seed, call);
         list = listed.list;
         payload::fill(bytes, draw::length_of(listed.seed), listed.seed);
         let answer = answered.answer;
@@ -102,34 +41,6 @@ fn compared(
         tally = tally.with(answer, is_same(answer, store, wanted, bytes));
     }
     tally
-}
-
-// The queue that creation gives; what it answers shows in the calls that follow.
-fn new(
-    cap: u32,
-    win: &[u32],
-    free: &[u32],
-    dues: &[f64],
-    seqs: &[u64],
-    arrivals: &[f64],
-    routes: &[u64],
-    ids: &[u32],
-    lengths: &[u32],
-    store: &[u8],
-) -> ImpairQueue {
-    let created = ImpairQueue::create(
-        cap as usize,
-        win,
-        free,
-        dues,
-        seqs,
-        arrivals,
-        routes,
-        ids,
-        lengths,
-        store,
-    );
-    created.queue
 }
 
 // Whether two answers have the same words; the bytes of a released copy count by their sum.

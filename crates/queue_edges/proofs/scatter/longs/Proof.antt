@@ -1,20 +1,18 @@
--- The loop ends after 24 entries, and the table keeps its length.
-use borrow.Author.Needs.{needs}
+-- The loop ends after 256 entries.
 use native.Mathlib.Omega.{arith}
-use lib.ListN.{length}
-use mathlib.Core.Path.{_≡_, refl, _∙_}
 use Prim.Native.Nat.{_≤_, _-_}
+use borrow.Author.Needs.{needs}
 use Rattle.queue_edges.proofs.scatter.longs.Statement.{statement}
 use Rattle.queue_edges.proofs.scatter.longs.Tie as tie
 
 abbrev Inv-loop : tie.InvT-loop
-Inv-loop t₀ seed i₀ t i = (length t ≡ length t₀) × (i ≤ 24)
+Inv-loop seed t₀ i₀ t i = i ≤ 256
 
 abbrev μ-loop : tie.MeasureT-loop
-μ-loop t₀ seed i₀ t i = 24 - i
+μ-loop seed t₀ i₀ t i = 256 - i
 
 loop-holds : tie.Need-loop-holds Inv-loop μ-loop
-loop-holds c = (refl, omega arith)
+loop-holds c = omega arith
 
 mix-requires : tie.Need-mix-requires Inv-loop μ-loop
 mix-requires c κs = search needs
@@ -22,20 +20,20 @@ mix-requires c κs = search needs
 long-of-requires : tie.Need-long-of-requires Inv-loop μ-loop
 long-of-requires c κs = search needs
 
-set-u64-requires : tie.Need-set-u64-requires Inv-loop μ-loop
-set-u64-requires c κs = search needs
+mul-t : tie.Need-mul-t Inv-loop μ-loop
+mul-t c = search needs
+
+array-write-t : tie.Need-array-write-t Inv-loop μ-loop
+array-write-t c = search needs
 
 add-i : tie.Need-add-i Inv-loop μ-loop
-add-i c = search needs
+add-i c = omega (arith, c .before .before .loop-test .taken)
 
 loop-less : tie.Need-loop-less Inv-loop μ-loop
-loop-less c = search needs
+loop-less c = omega (arith, c .before .before .loop-test .taken)
 
 loop-again : tie.Need-loop-again Inv-loop μ-loop
-loop-again c = (c .before .t .given ∙ c .before .before .before .before .before .before .before .loop .inv .0, omega (arith, c .before .before .before .before .before .before .loop-test .taken))
-
-same-length : tie.Need-same-length Inv-loop μ-loop
-same-length c = c .before .loop .inv .0
+loop-again c = omega (arith, c .before .before .loop-test .taken)
 
 returns : tie.Need-returns Inv-loop μ-loop
 returns c = search needs
@@ -49,9 +47,9 @@ longs-spec =
     loop-holds
     mix-requires
     long-of-requires
-    set-u64-requires
+    mul-t
+    array-write-t
     add-i
     loop-less
     loop-again
-    same-length
     returns)

@@ -1,2 +1,0 @@
--- Room says how long the tables are of which parts are lent.
-pub mod Room
