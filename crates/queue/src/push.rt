@@ -36,12 +36,12 @@ fn not_pushed(queue: ImpairQueue, number: u32) -> Pushed
 fn told(last: CopyEntered, seq: u64, copies: u32) -> Pushed
     ensures { λ r. ⌜ r ≡ toldOf last seq copies ⌝ }
 {
-    let queue = last.queue;
+    let after = last.queue;
     if !last.fits {
-        return not_pushed(queue, REFUSED_KEEPING);
+        return not_pushed(after, REFUSED_KEEPING);
     }
     Pushed {
-        queue,
+        queue: after,
         answer: PushAnswer::Entered { seq, copies },
     }
 }
