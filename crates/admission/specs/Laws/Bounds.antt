@@ -8,12 +8,13 @@ use lib.Dec.{T, leb, eqb, eqb→eq}
 use lib.Ieee.{Float}
 use lib.ListN.{length}
 use borrow.Author.Tests.{leb-true}
+use Rattle.numbers.specs.Checks.{firstFailing}
 use Rattle.numbers.specs.Laws.Both.{both-true}
 use Rattle.numbers.specs.Laws.NotNan.{cond-when, cond-has}
 use Rattle.numbers.specs.Limits.{maxCapacity, isCounterOf}
 use Rattle.numbers.specs.Refusals.{refusedFull}
 use Rattle.queue.specs.Calls.{AfterCopy, enterCopyOf, toldOf, told, againOf, secondOf, enterCopiesOf, pushOf, drainOf}
-use Rattle.queue.specs.Refusals.{refusalOf, inKeeping, memoryOf, pushRefusal, stateRefusal}
+use Rattle.queue.specs.Refusals.{queueChecks, inKeeping, memoryOf, pushRefusal, stateRefusal}
 use Rattle.queue.specs.Tables.{Tables, After}
 use Rattle.queue.specs.declared.queue.ImpairQueue.{ImpairQueue}
 use Rattle.queue.specs.declared.answers.Drained.{Drained}
@@ -74,8 +75,8 @@ copies-bounds width q t duplicated due now route bytes =
 
 -- ---- a reset
 
-keeping-passes : (counter keeping : Bool) → refusalOf true true true true counter keeping true ≡ 0 → keeping ≡ true
-unfolding refusalOf
+keeping-passes : (counter keeping : Bool) → firstFailing (queueChecks true true true true counter keeping true) ≡ 0 → keeping ≡ true
+unfolding firstFailing
 keeping-passes false keeping h = absurd (omega (arith, h))
 keeping-passes true false h = absurd (omega (arith, h))
 keeping-passes true true h = refl
