@@ -35,7 +35,6 @@ use Rattle.machine.specs.Steps.{Step, stepTo, leave, handOut, releaseStep, step
 use Rattle.device.specs.Release.{notReleased, sending, toldOf, accountedOf, sendingBy, sentWith, sentIn, releaseOf}
 use Rattle.device.specs.declared.answers.Released.{Released}
 use Rattle.device.specs.declared.device.Device.{Device}
-use Rattle.device.specs.declared.release.Sending.{Sending}
 use Rattle.claim.specs.Replies.{saidOfRelease}
 use Rattle.claim.specs.Laws.Matches.{Matches, AllShort}
 use Rattle.claim.specs.Laws.Agree.{Agrees, queueOf, deviceOf, of-device, parts-match, Passed, by-refusal}
@@ -72,8 +71,8 @@ module _ (m : Machine) (sound : SoundEngine (m .engine)) (short : AllShort (m .h
     handed-out : (x : Queued) (q : ImpairQueue) (t : Tables) → copyOf slotWidth (t .store) x .length ≤ maxLength → Keeps slotWidth t q (plain (m .cap) (without (copyOf slotWidth (t .store) x .seq) (m .held)) (m .nextSeq))
         → ReleaseAgrees (after (sentWith (deviceOf m q) (accountedOf q (m .accounts) x now)) t) (stepTo (released (copyOf slotWidth (t .store) x)) (leave m now (copyOf slotWidth (t .store) x)))
     handed-out x q t within keeps =
-        subst (λ (o : Sending). ReleaseAgrees (after (sentWith (deviceOf m q) o) t) (stepTo (released (copyOf slotWidth (t .store) x)) (leave m now (copyOf slotWidth (t .store) x))))
-        (sym (accounted m q x now within counted))
+        subst (λ (o : Released). ReleaseAgrees (after o t) (stepTo (released (copyOf slotWidth (t .store) x)) (leave m now (copyOf slotWidth (t .store) x))))
+        (sym (ap (sentWith (deviceOf m q)) (accounted m q x now within counted)))
         (record { says = refl; matches = parts-match (leave m now (copyOf slotWidth (t .store) x)) q t keeps sound (short-without (x .seq) (m .held) short) })
 
     one-left : (c : Copy) → c .length ≤ maxLength → (a : ReleaseAnswer) (q : ImpairQueue) (t : Tables) → queueSays slotWidth (t .store) a ≡ queueReleased c
