@@ -72,18 +72,30 @@ pub fn pairs() {
 
 // The latency on records that hold the floats at i, with and without latencies before it.
 fn states(i: usize, latency_ms: f64) {
-    send(samples::some_sends(0, i), 7, latency_ms);
-    send(samples::some_sends(5, i), 7, latency_ms);
-    deliver(samples::some_stats(0, i), latency_ms);
-    deliver(samples::some_stats(3, i), latency_ms);
+    sent(0, i, latency_ms);
+    sent(5, i, latency_ms);
+    delivered(0, i, latency_ms);
+    delivered(3, i, latency_ms);
+}
+
+fn sent(count: u64, i: usize, latency_ms: f64) {
+    send(samples::some_sends(count, i), 7, latency_ms);
+}
+
+fn delivered(count: u64, i: usize, latency_ms: f64) {
+    deliver(samples::some_stats(count, i), latency_ms);
 }
 
 // A target that holds the floats at i and an accountant that holds those at j, each with and without latencies.
 fn merges(i: usize, j: usize) {
-    merge(samples::some_stats(0, i), samples::some_sends(0, j));
-    merge(samples::some_stats(0, i), samples::some_sends(5, j));
-    merge(samples::some_stats(3, i), samples::some_sends(0, j));
-    merge(samples::some_stats(3, i), samples::some_sends(5, j));
+    merged(0, i, 0, j);
+    merged(0, i, 5, j);
+    merged(3, i, 0, j);
+    merged(3, i, 5, j);
+}
+
+fn merged(count: u64, i: usize, sends: u64, j: usize) {
+    merge(samples::some_stats(count, i), samples::some_sends(sends, j));
 }
 
 // The largest counters that refusal 25 lets through.

@@ -28,20 +28,14 @@ pub fn windows() {
 
 fn of_window(start_ms: u64, end_ms: u64) {
     let window = Window { start_ms, end_ms };
-    edges(window);
-    near(window);
-}
-
-fn edges(window: Window) {
-    for i in 0..16usize {
-        line(window, floats::at(i));
+    for i in 0..24 {
+        line(window, instant(i));
     }
 }
 
-fn near(window: Window) {
-    for i in 0..8usize {
-        line(window, NEAR[i]);
-    }
+// The sixteen floats, and then those near.
+fn instant(i: usize) -> f64 {
+    if i < 16 { floats::at(i) } else { NEAR[i % 8] }
 }
 
 // Whether the window holds the instant.

@@ -6,30 +6,38 @@ use accounts::SendAccountant;
 use accounts::TotalDropped;
 
 pub fn accountant(a: SendAccountant) {
-    output::count(a.sent_pkts);
-    output::count(a.sent_bytes);
-    output::count(a.dropped_overflow);
-    output::count(a.tcp_rst_kills);
-    output::count(a.nat_rebinds);
-    latency(a.latency);
-    output::end();
+    counts(
+        &[
+            a.sent_pkts,
+            a.sent_bytes,
+            a.dropped_overflow,
+            a.tcp_rst_kills,
+            a.nat_rebinds,
+        ],
+    );
+    let l = a.latency;
+    latency(l);
 }
 
 pub fn stats(s: DirectionStats) {
-    output::count(s.received_pkts);
-    output::count(s.received_bytes);
-    output::count(s.sent_pkts);
-    output::count(s.sent_bytes);
-    output::count(s.dropped_random);
-    output::count(s.dropped_ge);
-    output::count(s.dropped_mtu);
-    output::count(s.dropped_blackout);
-    output::count(s.dropped_overflow);
-    output::count(s.duplicates);
-    output::count(s.reorder_hits);
-    output::count(s.rate_deferred);
-    output::count(s.nat_rebinds);
-    output::count(s.tcp_rst_kills);
+    counts(
+        &[
+            s.received_pkts,
+            s.received_bytes,
+            s.sent_pkts,
+            s.sent_bytes,
+            s.dropped_random,
+            s.dropped_ge,
+            s.dropped_mtu,
+            s.dropped_blackout,
+            s.dropped_overflow,
+            s.duplicates,
+            s.reorder_hits,
+            s.rate_deferred,
+            s.nat_rebinds,
+            s.tcp_rst_kills,
+        ],
+    );
     let hist = s.hist;
     latency(LatencyStats {
         count: s.latency_count,
@@ -38,17 +46,22 @@ pub fn stats(s: DirectionStats) {
         max_ms: s.latency_max_ms,
         hist,
     });
-    output::end();
 }
 
+// The latencies, which are the last of a record.
 fn latency(l: LatencyStats) {
     output::count(l.count);
     output::float(l.sum_ms);
     output::float(l.min_ms);
     output::float(l.max_ms);
     let hist = l.hist;
-    for i in 0..12 {
-        output::count(hist[i]);
+    counts(&hist);
+    output::end();
+}
+
+fn counts(list: &[u64]) {
+    for i in 0..list.len() {
+        output::count(list[i]);
     }
 }
 

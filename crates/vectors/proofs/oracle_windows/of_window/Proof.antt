@@ -1,23 +1,20 @@
--- The loop ends after eight instants.
+-- The loop ends after the last instant.
 use borrow.Author.Needs.{needs}
 use Prim.Native.Nat.{_≤_, _-_}
-use Rattle.vectors.proofs.oracle_windows.near.Statement.{statement}
-use Rattle.vectors.proofs.oracle_windows.near.Tie as tie
+use Rattle.vectors.proofs.oracle_windows.of_window.Statement.{statement}
+use Rattle.vectors.proofs.oracle_windows.of_window.Tie as tie
 
 abbrev Inv-loop : tie.InvT-loop
-Inv-loop window i₀ i = i ≤ 8
+Inv-loop start-ms end-ms window i₀ i = i ≤ 24
 
 abbrev μ-loop : tie.MeasureT-loop
-μ-loop window i₀ i = 8 - i
+μ-loop start-ms end-ms window i₀ i = 24 - i
 
 loop-holds : tie.Need-loop-holds Inv-loop μ-loop
 loop-holds c = search needs
 
-mul-line : tie.Need-mul-line Inv-loop μ-loop
-mul-line c = search needs
-
-array-read-line : tie.Need-array-read-line Inv-loop μ-loop
-array-read-line c = search needs
+instant-requires : tie.Need-instant-requires Inv-loop μ-loop
+instant-requires c κs = search needs
 
 line-requires : tie.Need-line-requires Inv-loop μ-loop
 line-requires c κs = search needs
@@ -34,15 +31,14 @@ loop-again c = search needs
 returns : tie.Need-returns Inv-loop μ-loop
 returns c = search needs
 
-pub near-spec : {M : Type 1} → statement M
-near-spec =
+pub of-window-spec : {M : Type 1} → statement M
+of-window-spec =
     tie.close
     (tie.spec
     Inv-loop
     μ-loop
     loop-holds
-    mul-line
-    array-read-line
+    instant-requires
     line-requires
     add-i
     loop-less
