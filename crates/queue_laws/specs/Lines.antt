@@ -9,6 +9,7 @@ use Rattle.numbers.specs.Instant.{isInstantOf}
 use Rattle.numbers.specs.Limits.{isCounterOf}
 use Rattle.numbers.specs.Whole.{whole}
 use Rattle.held.specs.Order.{beforeOf}
+use Rattle.queue.specs.Refusals.{slotWidth}
 use Rattle.held.specs.Copies.{copy, least, without, dueBy, leastIn, leaving}
 use Rattle.queue_laws.specs.Held.{Call, push, release, drain, Reply, entered, released, noneDue, drained, refused, plain, secondPlain, pushPlain, handOut, releasePlain, drainPlain, step, run}
 
@@ -24,7 +25,7 @@ abbrev out : Float → ℕ → Reply
 out due seq = released (copy due seq (whole 0) 7 0 0 [])
 
 abbrev replies : ℕ → List Call → List Reply
-replies cap cs = run 2048 (plain cap [] 0) cs
+replies cap cs = run slotWidth (plain cap [] 0) cs
 
 pub record QueueLines : Type 0 where
   -- a full queue refuses and uses no seq, and what a copy left is used again

@@ -3,7 +3,7 @@
 use mathlib.Core.Path.{_≡_, refl, sym, ap, _∙_, subst}
 use mathlib.Core.List.{List, [], _∷_}
 use mathlib.Core.Bool.{Bool, true, false, cond, not, _&&_}
-use Prim.Native.Nat.{ℕ, _+_, _^_, _<_, _≤_}
+use Prim.Native.Nat.{ℕ, _+_, _<_, _≤_}
 use native.Mathlib.Omega.{arith}
 use lib.Dec.{leb, eqb}
 use lib.Ieee.{Float, le, isNan}
@@ -13,7 +13,7 @@ use Rattle.numbers.specs.Checks.{firstFailing}
 use Rattle.numbers.specs.Instant.{isInstantOf}
 use Rattle.numbers.specs.Laws.Both.{both, both-true}
 use Rattle.numbers.specs.Laws.Limits.{counter-below}
-use Rattle.numbers.specs.Limits.{maxCapacity, isCounterOf}
+use Rattle.numbers.specs.Limits.{maxCapacity, counterLimit, isCounterOf}
 use Rattle.numbers.specs.Refusals.{refusedInstant, refusedLength, refusedCounter, refusedDue, refusedFull}
 use Rattle.numbers.specs.Whole.{whole}
 use Rattle.held.specs.Copies.{Copy, dueBy, leastIn, Leaving, leaving}
@@ -55,7 +55,7 @@ told-agrees width seq copies o p h = rw (h .fits) (record { says = refl; keeps =
 
 -- what follows a first copy with that seq
 module _ (width : ℕ) (o : AfterCopy) (p : Plain) (h : Entered width o p) (seq : ℕ) (due arrival : Float) (route : ℕ) (duplicated : Bool) (bytes : List ℕ)
-    (num : isNan due ≡ false) (fit : length bytes ≤ width) (below : p .nextSeq ≤ 2 ^ 60) where
+    (num : isNan due ≡ false) (fit : length bytes ≤ width) (below : p .nextSeq ≤ counterLimit) where
   again-same : againOf duplicated (o .gives) ≡ (duplicated && not (isFull p))
   again-same = rw (h .fits, same-full width (o .memory) (o .gives .queue) p (h .keeps))
 
@@ -112,7 +112,7 @@ module _ (width : ℕ) (t : Tables) (q : ImpairQueue) (p : Plain) (k : Keeps wid
     push-passes e = rw e
 
     -- the first copy enters, then what follows it
-    push-enters : isFull p ≡ false → isNan due ≡ false → length bytes ≤ width → p .nextSeq < 2 ^ 60
+    push-enters : isFull p ≡ false → isNan due ≡ false → length bytes ≤ width → p .nextSeq < counterLimit
         → Agree width (saidByPush (secondOf width (q .«next_seq») due arrival route duplicated bytes (enterCopyOf width q t due arrival route id bytes)))
         (secondPlain (p .nextSeq) (withCopy p due arrival route id bytes) due arrival route duplicated bytes)
     push-enters room num fit below =
@@ -226,12 +226,12 @@ module _ (width : ℕ) (t : Tables) (q : ImpairQueue) (p : Plain) (k : Keeps wid
   pub empty-agrees : isEmptyOf q ≡ eqb (length (p .held)) 0
   empty-agrees = ap (λ (n : ℕ). eqb n 0) (k .count)
 
-  -- no more copies are held than the capacity, which is at most 1,048,576, and the next seq is at most 2 ^ 60 + 1
+  -- no more copies are held than the capacity, which is at most 1,048,576, and the next seq is at most one more than a counter may be
   pub held-within : length (p .held) ≤ p .cap
   held-within = omega (arith, k .count, k .held-in, k .opened-in, k .leaves-in, k .same-cap)
 
   pub cap-within : p .cap ≤ maxCapacity
   cap-within = omega (arith, k .small, k .same-cap)
 
-  pub next-within : p .nextSeq ≤ 2 ^ 60 + 1
+  pub next-within : p .nextSeq ≤ counterLimit + 1
   next-within = omega (arith, k .next-in, k .same-next)
