@@ -44,7 +44,9 @@ pub extern "C" fn bench_queue(
     };
     let mut left = count;
     while 0 < left {
-        turns = turns.turn(
+        let drawn = turns.drawn();
+        let before = drawn.queue;
+        let pushed = before.push(
             win,
             free,
             dues,
@@ -54,7 +56,24 @@ pub extern "C" fn bench_queue(
             copy_ids,
             lengths,
             store,
-            source,
+            drawn.due_ms(),
+            drawn.now_ms,
+            drawn.draw,
+            0,
+            false,
+            drawn.bytes(source),
+        );
+        let after = pushed.queue;
+        turns = drawn.with(after).leave(
+            win,
+            free,
+            dues,
+            seqs,
+            arrivals,
+            routes,
+            copy_ids,
+            lengths,
+            store,
             sent,
             held,
         );

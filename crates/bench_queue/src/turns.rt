@@ -1,4 +1,4 @@
-// One copy enters or leaves, and what left is summed up, so that the work cannot be left out.
+// What a copy that enters is made of; one leaves, and what left is summed up, so that the work cannot be left out.
 use queue::DueAnswer;
 use queue::ImpairQueue;
 use queue::Queued;
@@ -89,51 +89,29 @@ fn add(sum: u64, weight: u64) -> u64 {
 }
 
 impl Turns {
-    // A copy enters that is due within the spread.
-    pub(crate) fn enter(
-        self,
-        win: &mut [u32],
-        free: &[u32],
-        dues: &mut [f64],
-        seqs: &mut [u64],
-        arrivals: &mut [f64],
-        routes: &mut [u64],
-        copy_ids: &mut [u32],
-        lengths: &mut [u32],
-        store: &mut [u8],
-        source: &[u8],
-    ) -> Turns {
-        let draw = next(self.draw);
-        let due_ms = self.now_ms + unit(draw) * SPREAD_MS;
-        let bytes = queue::payload(source, (draw % SOURCES) as u32, LENGTH);
-        let queue = self.queue;
-        let pushed = queue.push(
-            win,
-            free,
-            dues,
-            seqs,
-            arrivals,
-            routes,
-            copy_ids,
-            lengths,
-            store,
-            due_ms,
-            self.now_ms,
-            draw,
-            0,
-            false,
-            bytes,
-        );
-        let after = pushed.queue;
-        Turns {
-            queue: after,
-            now_ms: self.now_ms,
-            draw,
-            sum: self.sum,
-        }
+    // With the next draw, of which a copy is made.
+    pub(crate) fn drawn(mut self) -> Turns {
+        self.draw = next(self.draw);
+        self
     }
 
-    // It is now the least due, and that copy leaves.
+    // With the queue that the copy entered.
+    pub(crate) fn with(mut self, queue: ImpairQueue) -> Turns {
+        self.queue = queue;
+        self
+    }
+
+    // The copy is due within the spread.
+    pub(crate) fn due_ms(self) -> f64 {
+        self.now_ms + unit(self.draw) * SPREAD_MS
+    }
+
+    // Its bytes.
+    pub(crate) fn bytes(self, source: &[u8]) -> &[u8] {
+        queue::payload(source, (self.draw % SOURCES) as u32, LENGTH)
+    }
+
+    // Where more than `held` are held, it is now the least due, and that copy leaves.
     pub(crate) fn leave(
         self,
         win: &mut [u32],
@@ -146,8 +124,12 @@ impl Turns {
         lengths: &[u32],
         store: &[u8],
         sent: &mut [u8],
+        held: usize,
     ) -> Turns {
         let queue = self.queue;
+        if queue.len() <= held {
+            return self;
+        }
         let due = queue.next_due(win, dues);
         let now_ms = due_or(due, self.now_ms);
         let released = queue.release(
@@ -170,51 +152,5 @@ impl Turns {
             draw: self.draw,
             sum: add(self.sum, send_answer(store, answer, sent)),
         }
-    }
-
-    // A copy enters, and one leaves where more than `held` are held then.
-    pub(crate) fn turn(
-        self,
-        win: &mut [u32],
-        free: &mut [u32],
-        dues: &mut [f64],
-        seqs: &mut [u64],
-        arrivals: &mut [f64],
-        routes: &mut [u64],
-        copy_ids: &mut [u32],
-        lengths: &mut [u32],
-        store: &mut [u8],
-        source: &[u8],
-        sent: &mut [u8],
-        held: usize,
-    ) -> Turns {
-        let entered = self.enter(
-            win,
-            free,
-            dues,
-            seqs,
-            arrivals,
-            routes,
-            copy_ids,
-            lengths,
-            store,
-            source,
-        );
-        let queue = entered.queue;
-        if queue.len() <= held {
-            return entered;
-        }
-        entered.leave(
-            win,
-            free,
-            dues,
-            seqs,
-            arrivals,
-            routes,
-            copy_ids,
-            lengths,
-            store,
-            sent,
-        )
     }
 }
