@@ -36,7 +36,7 @@ talliedBy (push.Refused k) q asked = cond (eqb k refusedFull) (admitted q 0 aske
 abbrev pub talliedOf : Pushed → Bool → Admitted
 talliedOf p duplicated = talliedBy (p .answer) (p .queue) (askedOf duplicated)
 
--- "KillRst: .. held copies move to torn"
+-- a reset counts the copies that were held as torn
 unfoldable pub tornBy : DrainAnswer → ImpairQueue → Admitted
 tornBy (drain.Drained n) q = admitted q 0 0 n 1 0
 tornBy (drain.Refused k) q = admitted q 0 0 0 0 refusedKeeping

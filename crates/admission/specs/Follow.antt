@@ -1,4 +1,4 @@
--- What follows each decision: "Drop: no more. KillRst: .. held copies move to torn. Enqueue: copy id 0, then id 1 if duplicated".
+-- What follows each decision (document 01, "The plain machine"): a drop changes nothing, a reset tears the held copies down, and the copies of all else enter.
 use mathlib.Core.Bool.{Bool}
 use mathlib.Core.List.{List}
 use Prim.Native.Nat.{ℕ}

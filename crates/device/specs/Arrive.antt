@@ -1,4 +1,4 @@
--- "arrive(now, bytes, route)": 23, 21, 22, 25; then the engine decides, the queue follows, and what came of it is counted.
+-- An arrival: 23, 21, 22, 25; then the engine decides, the queue follows, and what came of it is counted.
 use mathlib.Core.Bool.{cond}
 use mathlib.Core.List.{List}
 use Prim.Native.Nat.{ℕ, _+_}
@@ -22,7 +22,7 @@ use Rattle.device.specs.declared.answers.ArriveAnswer.the-variants as an
 use Rattle.device.specs.declared.answers.Arrived.{Arrived}
 use Rattle.device.specs.declared.device.Device.{Device}
 
--- "The answer says the decision and the numbers of copies entered, overflowed and torn by this call", or 26
+-- what was decided and what was counted, or 26
 unfoldable pub answerOf : Decision → Admitted → ArriveAnswer
 answerOf d a = cond (eqb (a .number) 0) (answer.Decided d (a .entered) (a .overflowed) (a .torn)) (answer.Refused (a .number))
 

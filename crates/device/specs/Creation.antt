@@ -1,5 +1,5 @@
--- Creation from settings, seed, salt, capacity and lent memory: 29, 24, 23; "a refused creation gives the fresh device of `DirectionConfig::default`, generator seed 0,
--- capacity 1". The lent memory is only looked at.
+-- Creation from settings, seed, salt, capacity and lent memory: 29, 24, 23. A refused one gives a device of the default settings, the generator's seed 0 and
+-- capacity 1. The lent memory is only looked at.
 use Prim.Native.Nat.{ℕ}
 use Rattle.draws.specs.Mix.{directionSeedOf}
 use Rattle.accounts.specs.Accountant.{noSends}

@@ -25,7 +25,7 @@ use Rattle.device.specs.declared.answers.TornDown.{TornDown}
 use Rattle.device.specs.declared.answers.Reported.{Reported}
 use Rattle.device.specs.declared.device.Device.{Device}
 
--- ---- rebind: "as `should_rebind_now`"; settings that it refuses were altered: 26
+-- ---- rebind: the engine's `should_rebind_now`; settings that it refuses were altered: 26
 
 abbrev pub withEngine : Device → ArrivalEngine → Device
 withEngine v e = record { engine = e; queue = v .queue; accounts = v .accounts; torn = v .torn }
@@ -42,7 +42,7 @@ rebindOf v now =
     let r = shouldRebindNowOf (v .engine) now in
     cond (eqb (callRefusal v true (isInstantOf now) true) 0) (reboundBy (r .answer) (withEngine v (r .engine))) (notRebound v (callRefusal v true (isInstantOf now) true))
 
--- ---- teardown: "all held go to torn; their number is said"; a queue that is out of keeping gives 26
+-- ---- teardown: every held copy is torn, and the answer says how many; a queue that is out of keeping gives 26
 
 abbrev pub notTorn : Device → ℕ → TornDown
 notTorn v k = record { device = v; answer = teardown.Refused k }
@@ -63,7 +63,7 @@ teardownOf v =
     let d = drainOf (v .queue) in
     cond (eqb (callRefusal v true true true) 0) (tornBy (d .answer) v (d .queue)) (notTorn v (callRefusal v true true true))
 
--- ---- report: "the engine's stats with accounts merged into a copy, held .., torn; changes nothing"
+-- ---- report: the statistics of engine and accounts together, how many copies are held and how many were torn
 
 abbrev pub reportedWith : Device → DirectionStats → Outcome → Reported
 reportedWith v s o = record { stats = s; held = v .queue .held; torn = v .torn; answer = o }

@@ -1,4 +1,4 @@
--- "Order: .. calls 23, 29, 21, 22, 27, 25, 28, those that apply". 29 is judged at creation; what 27 or 29 would refuse later is altered state and gives 26;
+-- Which refusal meets a call, in document 01's order (section "Who can cause a refusal"). 29 is judged at creation; what 27 or 29 would refuse later is altered state and gives 26;
 -- 28 is counted instead. 26 is found where the parts are used, after these.
 use mathlib.Core.Bool.{Bool}
 use mathlib.Core.List.{List, [], _∷_}

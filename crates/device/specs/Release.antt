@@ -1,4 +1,4 @@
--- "release(now)": 23, 21, 25; then the queue's least copy that is due leaves, "and is accounted with latency now − arrival".
+-- A release: 23, 21, 25; then the queue's least copy that is due leaves and is accounted (document 01, "The plain machine").
 use mathlib.Core.Bool.{true, cond}
 use Prim.Native.Nat.{ℕ}
 use lib.Dec.{eqb}
@@ -30,15 +30,15 @@ abbrev pub sending : ImpairQueue → SendAccountant → ReleaseAnswer → Sendin
 sending q a x = record { queue = q; accounts = a; answer = x }
 
 -- the answer once the accounts have answered; a length that they refuse was altered: 26
-unfoldable pub toldOf : Outcome → Queued → ReleaseAnswer
-toldOf outcome.Done c = answer.Released c
-toldOf (outcome.Refused k) c = answer.Refused refusedKeeping
+unfoldable pub sendAnswerOf : Outcome → Queued → ReleaseAnswer
+sendAnswerOf outcome.Done c = answer.Released c
+sendAnswerOf (outcome.Refused k) c = answer.Refused refusedKeeping
 
 -- the copy is accounted with its latency
 unfoldable pub accountedOf : ImpairQueue → SendAccountant → Queued → Float → Sending
 accountedOf q a c now =
     let s = onSendOf a (c .length) (sub binary64 now (c .«arrival_ms»)) in
-    sending q (s .accountant) (toldOf (s .answer) c)
+    sending q (s .accountant) (sendAnswerOf (s .answer) c)
 
 unfoldable pub sendingBy : ReleaseAnswer → ImpairQueue → SendAccountant → Float → Sending
 sendingBy (answer.Released c) q a now = accountedOf q a c now

@@ -3,7 +3,7 @@ ghost use mathlib.Core.Path.{_≡_};
 ghost use Rattle.queue.specs.Refusals.{slotWidth};
 ghost use Rattle.queue.specs.Tables.{tables, after};
 ghost use Rattle.queue.specs.Calls.{payloadOf};
-ghost use Rattle.device.specs.Release.{sending, toldOf, accountedOf, sendingOf, releaseOf};
+ghost use Rattle.device.specs.Release.{sending, sendAnswerOf, accountedOf, sendingOf, releaseOf};
 use crate::answers::Released;
 use crate::device::Device;
 use accounts::Outcome;
@@ -21,8 +21,8 @@ pub(crate) struct Sending {
 }
 
 // The answer once the accounts have answered; a length that 22 refuses was altered.
-fn told(outcome: Outcome, copy: Queued) -> ReleaseAnswer
-    ensures { λ r. ⌜ r ≡ toldOf outcome copy ⌝ }
+fn send_answer(outcome: Outcome, copy: Queued) -> ReleaseAnswer
+    ensures { λ r. ⌜ r ≡ sendAnswerOf outcome copy ⌝ }
 {
     match outcome {
         Outcome::Done => ReleaseAnswer::Released(copy),
@@ -40,7 +40,7 @@ fn accounted(queue: ImpairQueue, accounts: SendAccountant, copy: Queued, now_ms:
     Sending {
         queue,
         accounts: after,
-        answer: told(outcome, copy),
+        answer: send_answer(outcome, copy),
     }
 }
 

@@ -1,4 +1,4 @@
--- "A released copy's arrival is the arrive call in which a copy entered with its seq": seqs count the copies that entered, so the copies of all answers so far,
+-- Which arrive call a released copy came with (document 01, "The plain machine"): seqs count the copies that entered, so the copies of all answers so far,
 -- in their order, have the seqs 0, 1, 2 and so on.
 use mathlib.Core.Path.{_≡_}
 use mathlib.Core.List.{List, [], _∷_, _++_}

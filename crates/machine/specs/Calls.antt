@@ -32,7 +32,7 @@ Binary64 [] = Unit {0}
 Binary64 (c ∷ cs) = Binary64Call c × Binary64 cs
 
 pub data Answer : Type 0 where
-  -- "the decision and the numbers of copies entered, overflowed and torn by this call"
+  -- what was decided, and how many copies entered, overflowed and were torn
   decided : Decision → ℕ → ℕ → ℕ → Answer
   -- the copy that left, with its bytes
   released : Copy → Answer
@@ -46,7 +46,7 @@ pub data Answer : Type 0 where
   -- the number of the refusal
   refused : ℕ → Answer
 
--- "by 21, 22 and 25 only"
+-- the three numbers by which the machine refuses
 abbrev pub Refusal : ℕ → Type 0
 Refusal k = (k ≡ refusedInstant) ⊎ (k ≡ refusedLength) ⊎ (k ≡ refusedCounter)
 

@@ -54,7 +54,7 @@ single = freshMachine (hostCreation duplicating 1 0 1)
 abbrev one : List Call
 one = arrive (whole 0) (1 ∷ 2 ∷ 3 ∷ []) 7 ∷ []
 
--- "Capacity 1, duplicate 1, one arrival: 1 + 1 = overflow 1 + held 1."
+-- one arrival of a packet that is duplicated, at a capacity of 1 (document 01, "Lines to check")
 pub record OverflowLines : Type 0 where
   pub answered : answers single one ≡ (decided (Enqueue (whole 0) true) 1 1 0 ∷ [])
   -- received 1, duplicates 1, overflow 1, and nothing else is counted

@@ -1,4 +1,4 @@
--- The state of the plain machine: "engine, held list, next seq, accounts, torn", beside the capacity that the host named.
+-- The state of the plain machine (document 01, "The plain machine"), beside the capacity that the host named.
 use mathlib.Core.Bool.{Bool, _&&_}
 use mathlib.Core.List.{List, []}
 use Prim.Native.Nat.{ℕ}
@@ -38,6 +38,6 @@ hostCreation cfg seed salt cap = record { settings = cfg; generatorSeed = direct
 unfoldable pub freshMachine : Creation → Machine
 freshMachine c = machine (freshOf (c .settings) (c .generatorSeed)) (c .capacity) [] 0 noSends 0
 
--- whether refusal 25 lets a call through: no "counter (torn too) or next seq handed in is 2^60 or more"
+-- whether refusal 25 lets a call through: every counter, the torn copies and the next seq are below the limit
 unfoldable pub inRange : ArrivalEngine → SendAccountant → ℕ → ℕ → Bool
 inRange e a torn next = countersPass e && areCounters (accountantCounters a) && isCounterOf torn && isCounterOf next

@@ -1,5 +1,5 @@
--- What each call does, in document 01's order. "The machine refuses by 21, 22 and 25 only, judged on the arguments and its own state; a refused call answers
--- the number and changes nothing."
+-- What each call does, in the order of document 01 ("The plain machine"). A call is judged by 21, 22 and 25 on its arguments and the state; a refused one changes
+-- nothing.
 use mathlib.Core.Bool.{Bool, true, false, cond}
 use mathlib.Core.List.{List, [], _∷_, _++_}
 use Prim.Native.Nat.{ℕ, _+_}
@@ -60,19 +60,19 @@ abbrev pub withCopy : Machine → Float → Float → ℕ → ℕ → List ℕ �
 withCopy m due now route id bytes =
     machine (m .engine) (m .cap) (m .held ++ (copy due (m .nextSeq) now route id (length bytes) bytes ∷ [])) (m .nextSeq + 1) (m .accounts) (m .torn)
 
--- "each enters with the next seq, or the engine's overflow + 1"
+-- a copy that finds room enters with the next seq; another is counted as overflow by the engine
 unfoldable pub enterCopy : Float → Float → ℕ → List ℕ → ℕ → Entry → Entry
 enterCopy due now route bytes id e =
     cond (ltb (length (e .then .held)) (e .then .cap)) (entry (withCopy (e .then) due now route id bytes) (e .entered + 1) (e .overflowed))
     (entry (withEngine (e .then) (overflowedOf (e .then .engine) 1)) (e .entered) (e .overflowed + 1))
 
--- "copy id 0, then id 1 if duplicated, same due"
+-- the first copy has id 0, and a duplicated packet a second with id 1 and the same due
 unfoldable pub enterCopies : Machine → Float → Bool → Float → List ℕ → ℕ → Entry
 enterCopies m due duplicated now bytes route =
     let first = enterCopy due now route bytes 0 (entry m 0 0) in
     cond duplicated (enterCopy due now route bytes 1 first) first
 
--- "held copies move to torn"
+-- all held copies are counted as torn
 abbrev pub tear : Machine → Machine
 tear m = machine (m .engine) (m .cap) [] (m .nextSeq) (m .accounts) (m .torn + length (m .held))
 
@@ -99,7 +99,7 @@ arriveStep m now bytes route =
 
 -- ---- release(now)
 
--- the copy "leaves and is accounted with latency now − arrival"
+-- the copy is held no more and is accounted; its latency is the time since its arrival
 abbrev pub leave : Machine → Float → Copy → Machine
 leave m now c = machine (m .engine) (m .cap) (without (c .seq) (m .held)) (m .nextSeq) (sentOf (m .accounts) (c .length) (sub binary64 now (c .arrival))) (m .torn)
 
@@ -112,19 +112,19 @@ handOut m now (oneCopy c) = stepTo (released c) (leave m now c)
 unfoldable pub releaseStep : Machine → Float → Step
 releaseStep m now = unless m (isInstantOf now) true (handOut m now (leaving now (m .held)))
 
--- ---- rebind(now): "as `should_rebind_now`"
+-- ---- rebind(now): the engine's `should_rebind_now`
 
 unfoldable pub rebindStep : Machine → Float → Step
 rebindStep m now =
     unless m (isInstantOf now) true
     (cond (le (m .engine .«next_rebind_ms») now) (stepTo (rebound true) (withEngine m (reboundOf (m .engine)))) (stepTo (rebound false) m))
 
--- ---- teardown: "all held go to torn; their number is said"
+-- ---- teardown: every held copy is torn, and the answer says how many
 
 unfoldable pub teardownStep : Machine → Step
 teardownStep m = unless m true true (stepTo (toreDown (length (m .held))) (tear m))
 
--- ---- report: "the engine's stats with accounts merged into a copy, held .., torn; changes nothing"
+-- ---- report: the statistics of engine and accounts together, how many copies are held and how many were torn
 
 unfoldable pub reportStep : Machine → Step
 reportStep m = unless m true true (stepTo (reported (mergedOf (m .accounts) (m .engine .stats)) (length (m .held)) (m .torn)) m)

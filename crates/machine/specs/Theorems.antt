@@ -34,7 +34,7 @@ count made cs = omega (arith, fresh-empty made, all-balance (freshMachine made) 
 pub each-own : (made : Creation) (cs : List Call) → EachOwn [] cs (answers (freshMachine made) cs)
 each-own made cs = all-own [] (freshMachine made) (fresh-known made) cs
 
--- "bytes and route lie with the held copy and decide nothing": the calls without them are answered alike, but for the bytes and routes that are handed out
+-- bytes and routes decide nothing: the calls without them are answered alike, but for the bytes and routes that are handed out
 pub bytes-decide-nothing : (made : Creation) (cs : List Call)
     → let m = freshMachine made in bareAnswers (answers m cs) ≡ answers m (bareCalls cs)
 bytes-decide-nothing made cs = bare-answers (freshMachine made) cs ∙ ap (λ (m : Machine). answers m (bareCalls cs)) (fresh-bare made)
@@ -50,7 +50,7 @@ pub each-report : (made : Creation) (cs : List Call) → EachTells nothing (answ
 each-report made cs =
     all-tell nothing (freshMachine made) (fresh-order made) (fresh-counted made) (omega (arith, fresh-empty made)) cs
 
--- "the machine refuses by 21, 22 and 25 only"
+-- no other number refuses a call
 pub only-three : (m : Machine) (c : Call) (k : ℕ) → step m c .answer ≡ refused k → Refusal k
 only-three m c k e = step-refuses m c k e .one-of
 
@@ -60,11 +60,11 @@ unfolding answers
 only-three-along m [] k i = absurd i
 only-three-along m (c ∷ cs) k i = ⊎-elim (λ (e : refused k ≡ step m c .answer). only-three m c k (sym e)) (λ (j : In (refused k) (answers (step m c .then) cs)). only-three-along (step m c .then) cs k j) i
 
--- "a refused call answers the number and changes nothing"
+-- a refused call leaves the machine as it was
 pub refused-stays : (m : Machine) (c : Call) (k : ℕ) → step m c .answer ≡ refused k → step m c .then ≡ m
 refused-stays m c k e = step-refuses m c k e .stays
 
--- a report "changes nothing"
+-- a report leaves the machine as it was
 pub report-stays : (m : Machine) → step m report .then ≡ m
 report-stays m = report-changes-nothing m
 

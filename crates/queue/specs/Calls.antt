@@ -46,7 +46,7 @@ smallestQueue = fresh 1 0
 abbrev pub notCreated : ℕ → Created
 notCreated k = record { queue = smallestQueue; answer = create.Refused k }
 
--- "Capacity is 1 to 1,048,576 copies": 24, then 23
+-- a capacity that is 0 or too large is refused by 24, memory that is too short by 23
 unfoldable pub createOf : ℕ → ℕ → Tables → Created
 createOf width cap t =
     cond (not (leb 1 cap && leb cap maxCapacity)) (notCreated refusedCapacity)
@@ -142,7 +142,7 @@ leftOf q t slot =
     after (record { queue = oneLess q; answer = release.Released (queuedOf (t .dues) (t .seqs) (t .arrivals) (t .routes) (t .copyIds) (t .lengths) slot) })
     (joined (leaveOf slot (treeOf (q .leaves) t)) (set (t .free) (q .opened - q .held) slot) (rowsOf t))
 
--- "the least (due, seq) with due ≤ now leaves": it is the one at the root
+-- the copy at the root is the least; it leaves if its due has come
 unfoldable pub dueOf : ImpairQueue → Tables → Float → ℕ → After Released
 dueOf q t now root =
     cond (leb (q .leaves) root) (notReleased q (release.Refused refusedKeeping) t)

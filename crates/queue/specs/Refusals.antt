@@ -1,4 +1,4 @@
--- "Order: .. creation 29, 24, 23; calls 23, 29, 21, 22, 27, 25, 28, those that apply": 29 is not the queue's. 26 stands where what is found is out of keeping.
+-- Which refusal meets a call, in document 01's order (section "Who can cause a refusal"); 29 is not the queue's. 26 stands where what is found is out of keeping.
 use mathlib.Core.Bool.{Bool, true, not, _&&_}
 use mathlib.Core.List.{List, [], _∷_}
 use Prim.Native.Nat.{ℕ, _*_}
@@ -12,7 +12,7 @@ use Rattle.numbers.specs.Refusals.{refusedInstant, refusedLength, refusedMemory
 use Rattle.queue.specs.Tables.{Tables}
 use Rattle.queue.specs.declared.queue.ImpairQueue.{ImpairQueue}
 
--- "Each store slot is 2,048 bytes."
+-- how many bytes a slot has (document 01, "Records")
 abbrev pub slotWidth : ℕ
 slotWidth = 2048
 
@@ -22,7 +22,7 @@ queueChecks memory instant short due counter keeping space =
     check memory refusedMemory ∷ check instant refusedInstant ∷ check short refusedLength ∷ check due refusedDue ∷ check counter refusedCounter
     ∷ check keeping refusedKeeping ∷ check space refusedFull ∷ []
 
--- "The lent store has at least capacity × 2,048 bytes, and every other lent table at least capacity entries"
+-- whether every lent table has an entry for each copy of the capacity, and the store a slot
 unfoldable pub roomOf : ℕ → ℕ → ℕ → ℕ → ℕ → ℕ → ℕ → ℕ → ℕ → ℕ → ℕ → Bool
 roomOf width cap win free dues seqs arrivals routes ids lengths store =
     leb cap win && leb cap free && leb cap dues && leb cap seqs && leb cap arrivals && leb cap routes && leb cap ids && leb cap lengths && leb (cap * width) store

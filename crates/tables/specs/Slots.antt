@@ -1,4 +1,4 @@
--- A store is cut into slots of a width: "each store slot is 2,048 bytes".
+-- A store is cut into slots of one width (document 01, "Records").
 use mathlib.Core.List.{List, []}
 use mathlib.Core.Bool.{Bool, cond}
 use Prim.Native.Nat.{ℕ, _+_, _*_}

@@ -39,7 +39,7 @@ use Rattle.admission.specs.declared.admitted.Admitted.{Admitted}
 use Rattle.device.specs.Arrive.{answerOf, settledOf, arriveRefusal, arriveOf}
 use Rattle.device.specs.Others.{reboundBy, rebindOf, tornBy as tornDownBy, teardownOf}
 use Rattle.device.specs.Refusals.{callRefusal}
-use Rattle.device.specs.Release.{toldOf, accountedOf, sendingBy, releaseRefusal, releaseOf}
+use Rattle.device.specs.Release.{sendAnswerOf, accountedOf, sendingBy, releaseRefusal, releaseOf}
 use Rattle.device.specs.declared.answers.ArriveAnswer.the-variants as answer
 use Rattle.device.specs.declared.answers.Arrived.{Arrived}
 use Rattle.device.specs.declared.answers.Rebound.{Rebound}
@@ -87,8 +87,8 @@ settled-keeping : (d : Decision) (n i o t : ℕ) → (n ≡ 0) ⊎ (n ≡ refuse
 settled-keeping d n i o t (inl z) = rw z (λ (k : ℕ) e. let y : _≡_ {A = ℕ} 0 1 = cc in absurd (omega arith))
 settled-keeping d n i o t (inr z) = rw z keeping
 
-told-keeping : (store : List ℕ) (o : Outcome) (c : Queued) → OnlyKeeping (saidOfRelease slotWidth store (toldOf o c))
-unfolding toldOf
+told-keeping : (store : List ℕ) (o : Outcome) (c : Queued) → OnlyKeeping (saidOfRelease slotWidth store (sendAnswerOf o c))
+unfolding sendAnswerOf
 told-keeping store outcome.Done c k e = let y : _≡_ {A = ℕ} 0 1 = cc in absurd (omega arith)
 told-keeping store (outcome.Refused n) c k e = keeping k e
 

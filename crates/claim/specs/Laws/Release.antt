@@ -32,7 +32,7 @@ use Rattle.engine.specs.Laws.Sound.{SoundEngine}
 use Rattle.machine.specs.Calls.{release, released, noneDue}
 use Rattle.machine.specs.Machine.{Machine}
 use Rattle.machine.specs.Steps.{Step, stepTo, leave, handOut, releaseStep, step}
-use Rattle.device.specs.Release.{notReleased, sending, toldOf, accountedOf, sendingBy, sentWith, sentIn, releaseOf}
+use Rattle.device.specs.Release.{notReleased, sending, sendAnswerOf, accountedOf, sendingBy, sentWith, sentIn, releaseOf}
 use Rattle.device.specs.declared.answers.Released.{Released}
 use Rattle.device.specs.declared.device.Device.{Device}
 use Rattle.claim.specs.Replies.{saidOfRelease}
@@ -52,9 +52,9 @@ sent-done a n x short counted = send-done a n x (le-leb n maxLength short) count
 
 accounted : (m : Machine) (q : ImpairQueue) (c : Queued) (now : Float) → c .length ≤ maxLength → areCounters (accountantCounters (m .accounts)) ≡ true
     → accountedOf q (m .accounts) c now ≡ sending q (sentOf (m .accounts) (c .length) (sub binary64 now (c .«arrival_ms»))) (answer.Released c)
-unfolding accountedOf toldOf
+unfolding accountedOf sendAnswerOf
 accounted m q c now short counted =
-    ap (λ (s : Sent). sending q (s .accountant) (toldOf (s .answer) c))
+    ap (λ (s : Sent). sending q (s .accountant) (sendAnswerOf (s .answer) c))
     (sent-done (m .accounts) (c .length) (sub binary64 now (c .«arrival_ms»)) short counted)
 
 module _ (m : Machine) (sound : SoundEngine (m .engine)) (short : AllShort (m .held)) (now : Float) where
