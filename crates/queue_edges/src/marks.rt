@@ -10,11 +10,25 @@ pub struct Marks {
 }
 
 impl Marks {
+    fn new() -> Marks {
+        Marks { lent: 0, around: 0 }
+    }
+
+    // With one entry more.
+    fn with(mut self, n: u64, is_lent: bool) -> Marks {
+        if is_lent {
+            self.lent = draws::mix(self.lent, n);
+        } else {
+            self.around = draws::mix(self.around, n);
+        }
+        self
+    }
+
     // The mark of a further table.
     fn and(self, other: Marks) -> Marks {
         Marks {
-            lent: mixed(self.lent, other.lent),
-            around: mixed(self.around, other.around),
+            lent: draws::mix(self.lent, other.lent),
+            around: draws::mix(self.around, other.around),
         }
     }
 }
@@ -30,10 +44,10 @@ fn tree(lent: Lent, tables: Tables) -> Marks {
     let free = tables.free;
     let dues = tables.dues;
     let seqs = tables.seqs;
-    words(&win, lent.end(1))
-        .and(words(&free, lent.end(2)))
-        .and(floats(&dues, lent.end(3)))
-        .and(longs(&seqs, lent.end(4)))
+    words(&win, lent, 1)
+        .and(words(&free, lent, 2))
+        .and(floats(&dues, lent, 3))
+        .and(longs(&seqs, lent, 4))
 }
 
 // The tables of what else a copy has.
@@ -42,73 +56,54 @@ fn rows(lent: Lent, tables: Tables) -> Marks {
     let routes = tables.routes;
     let ids = tables.ids;
     let lengths = tables.lengths;
-    floats(&arrivals, lent.end(5))
-        .and(longs(&routes, lent.end(6)))
-        .and(words(&ids, lent.end(7)))
-        .and(words(&lengths, lent.end(8)))
+    floats(&arrivals, lent, 5)
+        .and(longs(&routes, lent, 6))
+        .and(words(&ids, lent, 7))
+        .and(words(&lengths, lent, 8))
 }
 
-// Each table is lent from entry 8 up to `end`.
-fn words(t: &[u32; 256], end: usize) -> Marks {
-    Marks {
-        lent: words_sum(t, 8, end),
-        around: mixed(words_sum(t, 0, 8), words_sum(t, end, 256)),
+// The mark of table number `table`.
+fn words(t: &[u32; 256], lent: Lent, table: u32) -> Marks {
+    let start = lent.start as usize;
+    let end = lent.end(table);
+    let mut marks = Marks::new();
+    for i in 0..256usize {
+        marks = marks.with(tables::get_u32(t, i) as u64, (start <= i) & (i < end));
     }
+    marks
 }
 
-fn longs(t: &[u64; 256], end: usize) -> Marks {
-    Marks {
-        lent: longs_sum(t, 8, end),
-        around: mixed(longs_sum(t, 0, 8), longs_sum(t, end, 256)),
+fn longs(t: &[u64; 256], lent: Lent, table: u32) -> Marks {
+    let start = lent.start as usize;
+    let end = lent.end(table);
+    let mut marks = Marks::new();
+    for i in 0..256usize {
+        marks = marks.with(tables::get_u64(t, i), (start <= i) & (i < end));
     }
+    marks
 }
 
-fn floats(t: &[f64; 256], end: usize) -> Marks {
-    Marks {
-        lent: floats_sum(t, 8, end),
-        around: mixed(floats_sum(t, 0, 8), floats_sum(t, end, 256)),
+fn floats(t: &[f64; 256], lent: Lent, table: u32) -> Marks {
+    let start = lent.start as usize;
+    let end = lent.end(table);
+    let mut marks = Marks::new();
+    for i in 0..256usize {
+        marks = marks.with(bits(tables::get_f64(t, i)), (start <= i) & (i < end));
     }
+    marks
 }
 
 fn stored(store: &[u8], end: usize) -> Marks {
     Marks {
         lent: payload::sum(values::after(values::front(store, end), 8)),
-        around: mixed(
+        around: draws::mix(
             payload::sum(values::front(store, 8)),
             payload::sum(values::after(store, end)),
         ),
     }
 }
 
-fn words_sum(t: &[u32], from: usize, to: usize) -> u64 {
-    let mut sum: u64 = 0;
-    for i in from..to {
-        sum = mixed(sum, tables::get_u32(t, i) as u64);
-    }
-    sum
-}
-
-fn longs_sum(t: &[u64], from: usize, to: usize) -> u64 {
-    let mut sum: u64 = 0;
-    for i in from..to {
-        sum = mixed(sum, tables::get_u64(t, i));
-    }
-    sum
-}
-
-fn floats_sum(t: &[f64], from: usize, to: usize) -> u64 {
-    let mut sum: u64 = 0;
-    for i in from..to {
-        sum = mixed(sum, bits(tables::get_f64(t, i)));
-    }
-    sum
-}
-
 // The bits of a float, and one number for every NaN.
 fn bits(x: f64) -> u64 {
     if x != x { 1 } else { f64::to_bits(x) }
-}
-
-fn mixed(sum: u64, n: u64) -> u64 {
-    draws::mix(sum, n)
 }

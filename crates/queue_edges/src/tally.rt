@@ -57,17 +57,26 @@ impl Tally {
         named(b" due", self.due);
         named(b" empty", self.empty);
         named(b" drained", self.drained);
-        let refused = self.refused;
-        named(b" refused 21:", refused[21]);
-        named(b" refused 22:", refused[22]);
-        named(b" refused 23:", refused[23]);
-        named(b" refused 25:", refused[25]);
-        named(b" refused 26:", refused[26]);
-        named(b" refused 27:", refused[27]);
-        named(b" refused 28:", refused[28]);
+        self.print_refused();
         named(b" wrong", self.wrong);
         output::end();
     }
+
+    // The refusals that a call on a queue can have; 24 is that of a creation.
+    fn print_refused(self) {
+        let refused = self.refused;
+        for n in 21..29usize {
+            if n != 24 {
+                number(n as u64, refused[n]);
+            }
+        }
+    }
+}
+
+fn number(n: u64, count: u64) {
+    output::text(b" refused");
+    output::count(n);
+    named(b":", count);
 }
 
 // The words, a blank and the number.
