@@ -37,68 +37,103 @@ fn shared(out: &mut [u8], at: usize, c: Config) -> usize {
     number(out, end, b" cap=", c.queue_cap as u64)
 }
 
+// The letters of `item` stand for settings, all others for themselves.
 fn direction(out: &mut [u8], at: usize, d: DirectionConfig) -> usize {
-    let mut end = losses(out, at, d);
-    end = delays(out, end, d);
-    end = limits(out, end, d);
-    windows(out, end, d)
+    filled(
+        out,
+        at,
+        d,
+        b" [loss=L ge=G delay=D jitter=J reorder=O rdelay=E dup=U rate=R burst=B mtu=M nat=NWK]",
+    )
 }
 
-fn losses(out: &mut [u8], at: usize, d: DirectionConfig) -> usize {
+fn filled(out: &mut [u8], at: usize, d: DirectionConfig, form: &[u8]) -> usize {
+    let mut end = at;
+    for i in 0..form.len() {
+        end = item(out, end, d, form[i]);
+    }
+    end
+}
+
+fn item(out: &mut [u8], at: usize, d: DirectionConfig, letter: u8) -> usize {
+    match letter {
+        b'L' | b'D' | b'J' | b'O' | b'E' | b'U' => collected::float(out, at, float_of(d, letter)),
+        b'B' | b'N' => collected::decimal(out, at, number_of(d, letter)),
+        b'G' | b'R' | b'M' => optional(out, at, d, letter),
+        b'W' | b'K' => list(out, at, d, letter),
+        _ => byte(out, at, letter),
+    }
+}
+
+fn float_of(d: DirectionConfig, letter: u8) -> f64 {
+    match letter {
+        b'L' => d.loss,
+        b'D' => d.delay_ms,
+        b'J' => d.jitter_ms,
+        b'O' => d.reorder_p,
+        b'E' => d.reorder_delay_ms,
+        _ => d.duplicate_p,
+    }
+}
+
+fn number_of(d: DirectionConfig, letter: u8) -> u64 {
+    match letter {
+        b'B' => d.rate_burst_bytes,
+        _ => d.nat_change_every_ms,
+    }
+}
+
+// A setting that may be absent.
+fn optional(out: &mut [u8], at: usize, d: DirectionConfig, letter: u8) -> usize {
     let ge = d.ge;
-    let end = float(out, at, b" [loss=", d.loss);
-    burst_loss(out, end, ge)
-}
-
-fn delays(out: &mut [u8], at: usize, d: DirectionConfig) -> usize {
-    let mut end = float(out, at, b" delay=", d.delay_ms);
-    end = float(out, end, b" jitter=", d.jitter_ms);
-    end = float(out, end, b" reorder=", d.reorder_p);
-    end = float(out, end, b" rdelay=", d.reorder_delay_ms);
-    float(out, end, b" dup=", d.duplicate_p)
-}
-
-fn limits(out: &mut [u8], at: usize, d: DirectionConfig) -> usize {
     let rate = d.rate_bps;
     let mtu = d.mtu;
-    let mut end = rate_limit(out, at, rate);
-    end = number(out, end, b" burst=", d.rate_burst_bytes);
-    end = packet_limit(out, end, mtu);
-    number(out, end, b" nat=", d.nat_change_every_ms)
+    match letter {
+        b'G' => burst_loss(out, at, ge),
+        b'R' => rate_limit(out, at, rate),
+        _ => packet_limit(out, at, mtu),
+    }
 }
 
-fn windows(out: &mut [u8], at: usize, d: DirectionConfig) -> usize {
-    let window_list = d.blackouts;
-    let kill_list = d.tcp_kills;
-    let mut end = blackouts(out, at, window_list, d.blackout_count);
-    end = kills(out, end, kill_list, d.tcp_kill_count);
-    collected::text(out, end, b"]")
+fn list(out: &mut [u8], at: usize, d: DirectionConfig, letter: u8) -> usize {
+    if letter == b'W' {
+        let blackout_list = d.blackouts;
+        blackouts(out, at, blackout_list, d.blackout_count)
+    } else {
+        let kill_list = d.tcp_kills;
+        kills(out, at, kill_list, d.tcp_kill_count)
+    }
+}
+
+fn byte(out: &mut [u8], at: usize, letter: u8) -> usize {
+    let word = [letter];
+    collected::text(out, at, &word)
 }
 
 fn burst_loss(out: &mut [u8], at: usize, ge: GeOption) -> usize {
     match ge {
-        GeOption::Absent => collected::text(out, at, b" ge=none"),
+        GeOption::Absent => collected::text(out, at, b"none"),
         GeOption::Present(g) => chances(out, at, g),
     }
 }
 
 fn chances(out: &mut [u8], at: usize, g: Ge) -> usize {
-    let mut end = float(out, at, b" ge=", g.p);
+    let mut end = collected::float(out, at, g.p);
     end = float(out, end, b":", g.r);
     float(out, end, b":", g.h)
 }
 
 fn rate_limit(out: &mut [u8], at: usize, rate: RateOption) -> usize {
     match rate {
-        RateOption::Absent => collected::text(out, at, b" rate=none"),
-        RateOption::Present(n) => number(out, at, b" rate=", n),
+        RateOption::Absent => collected::text(out, at, b"none"),
+        RateOption::Present(n) => collected::decimal(out, at, n),
     }
 }
 
 fn packet_limit(out: &mut [u8], at: usize, mtu: MtuOption) -> usize {
     match mtu {
-        MtuOption::Absent => collected::text(out, at, b" mtu=none"),
-        MtuOption::Present(n) => number(out, at, b" mtu=", n as u64),
+        MtuOption::Absent => collected::text(out, at, b"none"),
+        MtuOption::Present(n) => collected::decimal(out, at, n as u64),
     }
 }
 

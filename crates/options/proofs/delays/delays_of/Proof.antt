@@ -1,8 +1,25 @@
 -- Each setting is its definition, and the refusals are joined in the source's order.
-use Rattle.options.specs.Directions.{delaysOf}
+use mathlib.Core.List.{List}
+use mathlib.Core.Path.{_≡_}
+use Prim.Native.Nat.{ℕ}
+use lib.Ieee.{Float}
+use Rattle.options.specs.declared.delays.Delays.{Delays}
+use Rattle.settings.specs.declared.setting.Kind.the-variants.{Probability, Milliseconds}
+use Rattle.settings.specs.declared.setting.Setting.{Setting}
+use Rattle.settings.specs.Settings.{refusalOf, floatOf, earlier}
+use Rattle.options.specs.Directions.{numberAt, undelayedOf, delaysOf}
 use borrow.Author.Needs.{needs}
 use Rattle.options.proofs.delays.delays_of.Statement.{statement}
 use Rattle.options.proofs.delays.delays_of.Tie as tie
+
+-- the settings and the refusals, piece by piece
+delays-is : (s p : List ℕ) {d j r x : Setting} {fr fx fd fj : Float} {nx u l nd nj nr n₂ n₃ n₄ : ℕ} → d ≡ numberAt s p Milliseconds "delay-ms"
+    → j ≡ numberAt s p Milliseconds "jitter-ms" → r ≡ numberAt s p Probability "reorder" → x ≡ numberAt s p Milliseconds "reorder-delay-ms" → fr ≡ floatOf r
+    → fx ≡ floatOf x → nx ≡ refusalOf x → u ≡ undelayedOf fr fx → l ≡ earlier nx u → fd ≡ floatOf d → fj ≡ floatOf j → nd ≡ refusalOf d → nj ≡ refusalOf j
+    → nr ≡ refusalOf r → n₂ ≡ earlier nr l → n₃ ≡ earlier nj n₂ → n₄ ≡ earlier nd n₃
+    → _≡_ {A = Delays} (record { «delay_ms» = fd; «jitter_ms» = fj; «reorder_p» = fr; «reorder_delay_ms» = fx; refusal = n₄ }) (delaysOf s p)
+unfolding delaysOf
+delays-is s p e₁ e₂ e₃ e₄ e₅ e₆ e₇ e₈ e₉ e₁₀ e₁₁ e₁₂ e₁₃ e₁₄ e₁₅ e₁₆ e₁₇ = rw (e₁₇, e₁₆, e₁₅, e₁₄, e₁₃, e₁₂, e₁₁, e₁₀, e₉, e₈, e₇, e₆, e₅, e₄, e₃, e₂, e₁)
 
 slice-aggregate-setting-at : tie.Need-slice-aggregate-setting-at
 slice-aggregate-setting-at c = search needs
@@ -68,8 +85,7 @@ earlier-of-requires-4 : tie.Need-earlier-of-requires-4
 earlier-of-requires-4 c κs = search needs
 
 returns : tie.Need-returns
-unfolding delaysOf
-returns c = rw (c .earlier-of4 .ensures, c .before .earlier-of3 .ensures, c .before .before .earlier-of2 .ensures, c .before .before .before .refusal4 .ensures, c .before .before .before .before .refusal3 .ensures, c .before .before .before .before .before .refusal2 .ensures, c .before .before .before .before .before .before .float4 .ensures, c .before .before .before .before .before .before .before .float3 .ensures, c .before .before .before .before .before .before .before .before .earlier-of .ensures, c .before .before .before .before .before .before .before .before .before .undelayed .ensures, c .before .before .before .before .before .before .before .before .before .before .refusal .ensures, c .before .before .before .before .before .before .before .before .before .before .before .float2 .ensures, c .before .before .before .before .before .before .before .before .before .before .before .before .float .ensures, c .before .before .before .before .before .before .before .before .before .before .before .before .before .setting-at4 .ensures, c .before .before .before .before .before .before .before .before .before .before .before .before .before .before .before .setting-at3 .ensures, c .before .before .before .before .before .before .before .before .before .before .before .before .before .before .before .before .before .setting-at2 .ensures, c .before .before .before .before .before .before .before .before .before .before .before .before .before .before .before .before .before .before .before .setting-at .ensures)
+returns c = delays-is _ _ (c .before .before .before .before .before .before .before .before .before .before .before .before .before .before .before .before .before .before .before .setting-at .ensures) (c .before .before .before .before .before .before .before .before .before .before .before .before .before .before .before .before .before .setting-at2 .ensures) (c .before .before .before .before .before .before .before .before .before .before .before .before .before .before .before .setting-at3 .ensures) (c .before .before .before .before .before .before .before .before .before .before .before .before .before .setting-at4 .ensures) (c .before .before .before .before .before .before .before .before .before .before .before .before .float .ensures) (c .before .before .before .before .before .before .before .before .before .before .before .float2 .ensures) (c .before .before .before .before .before .before .before .before .before .before .refusal .ensures) (c .before .before .before .before .before .before .before .before .before .undelayed .ensures) (c .before .before .before .before .before .before .before .before .earlier-of .ensures) (c .before .before .before .before .before .before .before .float3 .ensures) (c .before .before .before .before .before .before .float4 .ensures) (c .before .before .before .before .before .refusal2 .ensures) (c .before .before .before .before .refusal3 .ensures) (c .before .before .before .refusal4 .ensures) (c .before .before .earlier-of2 .ensures) (c .before .earlier-of3 .ensures) (c .earlier-of4 .ensures)
 
 pub delays-of-spec : {M : Type 1} → statement M
 delays-of-spec =
