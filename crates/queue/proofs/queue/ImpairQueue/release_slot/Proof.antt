@@ -1,4 +1,5 @@
 -- The slot, the stack of slots and the tournament by their contracts.
+use Rattle.queue.specs.Tables.{tables}
 use Rattle.queue.proofs.ReleaseSteps.{left-is}
 use borrow.Author.Needs.{needs}
 use Rattle.queue.proofs.queue.ImpairQueue.release_slot.Statement.{statement}
@@ -35,7 +36,9 @@ same-length-4 : tie.Need-same-length-4
 same-length-4 c = search needs
 
 returns : tie.Need-returns
-returns c = left-is _ _ _ _ _ _ _ _ _ (c .before .before .before .before .before .before .before .before .before .before .before .before .before .before .before .before .queued .ensures) (c .before .before .before .before .before .before .before .before .before .before .before .before .before .set-u32 .ensures) (c .before .before .before .before .before .before .before .leave .ensures) (c .one-less .ensures)
+returns c =
+    let a = c .before .before .before .before .before .before .before .before .before .before .before .before .before .before .before .before .before .before .before .before .before .before .before .before .before .before .before .before .args in
+    left-is (a .self) (tables (a .win .now) (a .free .now) (a .dues .now) (a .seqs .now) (a .arrivals .now) (a .routes .now) (a .ids .now) (a .lengths .now) (a .store .now)) (a .slot) _ _ _ _ _ _ (c .before .before .before .before .before .before .before .before .before .before .before .before .before .before .before .before .queued .ensures) (c .before .before .before .before .before .before .before .before .before .before .before .before .before .set-u32 .ensures) (c .before .before .before .before .before .before .before .leave .ensures) (c .one-less .ensures)
 
 pub release-slot-spec : {M : Type 1} → statement M
 release-slot-spec =
