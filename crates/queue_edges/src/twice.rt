@@ -58,9 +58,9 @@ fn push(name: &[u8], queue: ImpairQueue, first_left: u32, last_left: u32) {
     let after = pushed.queue;
     let answer = pushed.answer;
     say(answer);
-    pair(b"; queue", after.cap as u64, after.held as u64);
+    narrow(b"; queue", after.cap, after.held);
     output::count(after.next_seq);
-    pair(b"; ids", ids[0] as u64, ids[1] as u64);
+    narrow(b"; ids", ids[0], ids[1]);
     pair(b"; seqs", seqs[0], seqs[1]);
     output::end();
 }
@@ -73,6 +73,10 @@ fn say(answer: PushAnswer) {
             output::count(number as u64);
         }
     }
+}
+
+fn narrow(name: &[u8], a: u32, b: u32) {
+    pair(name, a as u64, b as u64);
 }
 
 fn pair(name: &[u8], a: u64, b: u64) {
