@@ -1,5 +1,6 @@
 -- The slot, the stack of slots and the tournament by their contracts.
 use Rattle.queue.specs.Tables.{tables}
+use Rattle.queue.specs.Tables.{tables}
 use Rattle.queue.proofs.ReleaseSteps.{left-is}
 use borrow.Author.Needs.{needs}
 use Rattle.queue.proofs.queue.ImpairQueue.release_slot.Statement.{statement}
@@ -24,16 +25,16 @@ one-less-requires : tie.Need-one-less-requires
 one-less-requires c κs = c .before .before .before .before .before .before .before .before .before .before .before .before .before .before .before .before .before .before .before .before .before .before .before .before .before .before .before .pre .0
 
 same-length : tie.Need-same-length
-same-length c = search needs
+same-length c = c .before .before .before .before .before .before .before .leave .kept .0
 
 same-length-2 : tie.Need-same-length-2
-same-length-2 c = search needs
+same-length-2 c = c .before .before .before .before .before .before .before .before .before .before .before .before .before .set-u32 .kept .0
 
 same-length-3 : tie.Need-same-length-3
-same-length-3 c = search needs
+same-length-3 c = c .before .before .before .before .before .before .before .leave .kept .1 .0
 
 same-length-4 : tie.Need-same-length-4
-same-length-4 c = search needs
+same-length-4 c = c .before .before .before .before .before .before .before .leave .kept .1 .1 .0
 
 returns : tie.Need-returns
 returns c =
