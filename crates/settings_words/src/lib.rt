@@ -1,4 +1,5 @@
 // Settings as words, for the programs. `out` and `at` are those of output::collected.
+use numbers::MAX_ENTRIES;
 use options::Config;
 use options::DirectionConfig;
 use options::Ge;
@@ -137,10 +138,10 @@ fn packet_limit(out: &mut [u8], at: usize, mtu: MtuOption) -> usize {
     }
 }
 
-fn blackouts(out: &mut [u8], at: usize, list: [Window; 128], count: usize) -> usize {
+fn blackouts(out: &mut [u8], at: usize, list: [Window; MAX_ENTRIES], count: usize) -> usize {
     let mut end = at;
     let mut i = 0;
-    while i < 128 && i < count {
+    while i < MAX_ENTRIES && i < count {
         let w = list[i];
         end = window(out, end, b" b", w);
         i += 1;
@@ -148,10 +149,10 @@ fn blackouts(out: &mut [u8], at: usize, list: [Window; 128], count: usize) -> us
     end
 }
 
-fn kills(out: &mut [u8], at: usize, list: [TcpKill; 128], count: usize) -> usize {
+fn kills(out: &mut [u8], at: usize, list: [TcpKill; MAX_ENTRIES], count: usize) -> usize {
     let mut end = at;
     let mut i = 0;
-    while i < 128 && i < count {
+    while i < MAX_ENTRIES && i < count {
         let k = list[i];
         end = kill(out, end, k);
         i += 1;
