@@ -1,6 +1,5 @@
--- What demand 3 counts from the answers: "received, arrive calls not refused; random, GE, MTU, blackout, those decided as that drop (a hold is blackout); reset,
--- those decided KillRst; duplicates, Enqueue decisions that are duplicated; overflow and torn, the sums of copies said to be overflowed or torn; released, copies
--- handed out."
+-- What demand 3 counts from the answers (document 01, "The plain machine"): the arrivals that were not refused, how many were decided in each way (a packet that a
+-- kill holds is a blackout), and how many copies overflowed, were torn or were handed out.
 use mathlib.Core.Path.{_≡_}
 use mathlib.Core.List.{List, [], _∷_}
 use Prim.Native.Nat.{ℕ, _+_}
