@@ -13,11 +13,10 @@ use Rattle.tournament.specs.Calls.{fitsOf, enterOf}
 use Rattle.tournament.specs.Growth.{Tree, tree}
 use Rattle.queue.specs.Tables.{Tables, tables, After, after, Rows, rows, rowsOf, writtenOf, treeOf}
 use Rattle.queue.specs.Refusals.{memoryOf, pushRefusal}
-use Rattle.queue.specs.Room.{hasRoom}
 use Rattle.queue.specs.Calls.{queue, nextSlot, oneMore, notPushed, AfterCopy, enteredOf, enterCopyOf, toldOf, told, againOf, secondOf, enterCopiesOf, pushOf}
 use Rattle.queue.specs.declared.queue.ImpairQueue.{ImpairQueue}
 use Rattle.queue.specs.declared.answers.Pushed.{Pushed}
-use Rattle.queue.proofs.RefusalSteps.{shortestIn, memory-is}
+use Rattle.queue.proofs.RefusalSteps.{roomIn, room-is}
 
 pub one-more-is : (q : ImpairQueue) (leaves opened : ℕ) → opened ≡ max (q .opened) (q .held + 1) → queue (q .cap) (q .held + 1) (q .«next_seq» + 1) leaves opened ≡ oneMore q leaves
 one-more-is q leaves opened e = ap (λ (o : ℕ). queue (q .cap) (q .held + 1) (q .«next_seq» + 1) leaves o) e
@@ -88,10 +87,10 @@ module _ (width : ℕ) (q : ImpairQueue) (t : Tables) (due arrival : Float) (rou
 
 -- ---- the call
 
-module _ (width : ℕ) (q : ImpairQueue) (t : Tables) (due arrival : Float) (route id : ℕ) (duplicated : Bool) (bytes : List ℕ) (shortest : ℕ) (memory : Bool) (number : ℕ)
-    (es : shortest ≡ shortestIn t) (em : memory ≡ hasRoom width (q .cap) shortest (length (t .store))) (en : number ≡ pushRefusal width q memory due arrival (length bytes)) where
+module _ (width : ℕ) (q : ImpairQueue) (t : Tables) (due arrival : Float) (route id : ℕ) (duplicated : Bool) (bytes : List ℕ) (memory : Bool) (number : ℕ)
+    (em : memory ≡ roomIn width (q .cap) t) (en : number ≡ pushRefusal width q memory due arrival (length bytes)) where
   asked : number ≡ pushRefusal width q (memoryOf width (q .cap) t) due arrival (length bytes)
-  asked = en ∙ ap (λ (m : Bool). pushRefusal width q m due arrival (length bytes)) (memory-is width (q .cap) shortest t memory es em)
+  asked = en ∙ ap (λ (m : Bool). pushRefusal width q m due arrival (length bytes)) (room-is width (q .cap) t memory em)
 
   pub push-refused : (x : Pushed) → (number ≡ 0 → ⊥) → x ≡ notPushed q number → after x t ≡ pushOf width q t due arrival route id duplicated bytes
   unfolding pushOf

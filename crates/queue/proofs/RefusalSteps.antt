@@ -1,7 +1,7 @@
 -- What the refusals are made of, and what a call that meets none has passed.
 use mathlib.Core.Path.{_≡_, refl, sym, ap, _∙_}
 use mathlib.Core.Bool.{Bool, true, false, not, _&&_, Bool·not-not}
-use Prim.Native.Nat.{ℕ, _<_, _≤_, _^_, min}
+use Prim.Native.Nat.{ℕ, _*_, _<_, _≤_, min}
 use native.Mathlib.Omega.{arith}
 use lib.Dec.{leb, eqb}
 use lib.Ieee.{Float, isNan, eq, ne}
@@ -9,13 +9,13 @@ use lib.ListN.{length}
 use borrow.Author.Tests.{le-leb, lt-leb, leb-true, leb-false}
 use Rattle.numbers.specs.Checks.{firstFailing}
 use Rattle.numbers.specs.Instant.{isInstantOf}
-use Rattle.numbers.specs.Limits.{maxCapacity, isCounterOf}
+use Rattle.numbers.specs.Limits.{maxCapacity, counterLimit, isCounterOf}
 use Rattle.numbers.specs.Laws.Both.{both-true}
+use Rattle.numbers.specs.Laws.Checks.{AllPass, none-failing}
 use Rattle.numbers.specs.Laws.Kinds.{nan-differs}
 use Rattle.numbers.specs.Laws.Limits.{counter-below}
 use Rattle.queue.specs.Tables.{Tables}
 use Rattle.queue.specs.Refusals.{queueChecks, roomOf, memoryOf, inKeeping, pushRefusal, releaseRefusal}
-use Rattle.queue.specs.Room.{hasRoom, shortestOf}
 use Rattle.queue.specs.declared.queue.ImpairQueue.{ImpairQueue}
 
 -- only a NaN is not equal to itself
@@ -23,21 +23,11 @@ pub eq-self : (x : Float) → eq x x ≡ not (isNan x)
 unfolding ne
 eq-self x = sym (ap not (nan-differs x) ∙ Bool·not-not (eq x x))
 
--- the tests whose passing the proofs use
-record All (len counter keeping : Bool) : Type 0 where
-  len-passes : len ≡ true
-  counter-passes : counter ≡ true
-  keeping-passes : keeping ≡ true
-
-all-pass : (memory instant len due counter keeping space : Bool) → firstFailing (queueChecks memory instant len due counter keeping space) ≡ 0 → All len counter keeping
-unfolding firstFailing
-all-pass false instant len due counter keeping space h = absurd (omega (arith, h))
-all-pass true false len due counter keeping space h = absurd (omega (arith, h))
-all-pass true true false due counter keeping space h = absurd (omega (arith, h))
-all-pass true true true false counter keeping space h = absurd (omega (arith, h))
-all-pass true true true true false keeping space h = absurd (omega (arith, h))
-all-pass true true true true true false space h = absurd (omega (arith, h))
-all-pass true true true true true true space h = record { len-passes = refl; counter-passes = refl; keeping-passes = refl }
+-- a call that meets no refusal has passed every test
+all-pass : (memory instant len due counter keeping space : Bool) → firstFailing (queueChecks memory instant len due counter keeping space) ≡ 0 → AllPass (queueChecks memory instant len due counter keeping space)
+all-pass memory instant len due counter keeping space h =
+    none-failing (queueChecks memory instant len due counter keeping space)
+    ((λ z. omega (arith, z)), ((λ z. omega (arith, z)), ((λ z. omega (arith, z)), ((λ z. omega (arith, z)), ((λ z. omega (arith, z)), ((λ z. omega (arith, z)), ((λ z. omega (arith, z)), tt))))))) h
 
 -- a state whose numbers can stand together
 pub record Sound (q : ImpairQueue) : Type 0 where
@@ -62,24 +52,20 @@ sound q keeping =
 -- what a push that meets no refusal has passed
 pub record Passed (width : ℕ) (q : ImpairQueue) (len : ℕ) : Type 0 where
   pub state : Sound q
-  pub seq : q .«next_seq» < 2 ^ 60
+  pub seq : q .«next_seq» < counterLimit
   pub fits : len ≤ width
 
 pub push-passed : (width : ℕ) (q : ImpairQueue) (memory : Bool) (due arrival : Float) (len : ℕ) → pushRefusal width q memory due arrival len ≡ 0 → Passed width q len
 unfolding pushRefusal
 push-passed width q memory due arrival len h =
     let all = all-pass memory (isInstantOf arrival) (leb len width) (not (isNan due)) (isCounterOf (q .«next_seq»)) (inKeeping q) (not (eqb (q .held) (q .cap))) h in
-    record { state = sound q (all .keeping-passes); seq = counter-below (q .«next_seq») (all .counter-passes); fits = leb-true len width (all .len-passes) }
+    record { state = sound q (all .1 .1 .1 .1 .1 .0); seq = counter-below (q .«next_seq») (all .1 .1 .1 .1 .0); fits = leb-true len width (all .1 .1 .0) }
 
 pub release-passed : (q : ImpairQueue) (memory : Bool) (now : Float) → releaseRefusal q memory now ≡ 0 → Sound q
 unfolding releaseRefusal
 release-passed q memory now h =
     let all = all-pass memory (isInstantOf now) true true (isCounterOf (q .«next_seq»)) (inKeeping q) true h in
-    sound q (all .keeping-passes)
-
--- the shortest of the tables
-abbrev pub shortestIn : Tables → ℕ
-shortestIn t = shortestOf (length (t .win)) (length (t .free)) (length (t .dues)) (length (t .seqs)) (length (t .arrivals)) (length (t .routes)) (length (t .copyIds)) (length (t .lengths))
+    sound q (all .1 .1 .1 .1 .1 .0)
 
 -- a number is at most the least of two where it is at most each
 leb-min : (c a b : ℕ) → leb c (min a b) ≡ (leb c a && leb c b)
@@ -100,14 +86,17 @@ one-by-one true true true true false f g h = refl
 one-by-one true true true true true false g h = refl
 one-by-one true true true true true true g h = refl
 
-pub lengths-are : (width cap a b c d e f g h s : ℕ) → hasRoom width cap (shortestOf a b c d e f g h) s ≡ roomOf width cap a b c d e f g h s
-unfolding hasRoom shortestOf roomOf
+-- the shortest table has an entry for each copy exactly where each has
+pub lengths-are : (width cap a b c d e f g h s : ℕ) → (leb cap (min (min (min a b) (min c d)) (min (min e f) (min g h))) && leb (cap * width) s) ≡ roomOf width cap a b c d e f g h s
+unfolding roomOf
 lengths-are width cap a b c d e f g h s = rw (leb-min, leb-min, leb-min, leb-min, leb-min, leb-min, leb-min, one-by-one)
 
-pub room-is : (width cap : ℕ) (t : Tables) → hasRoom width cap (shortestIn t) (length (t .store)) ≡ memoryOf width cap t
-unfolding memoryOf
-room-is width cap t = lengths-are width cap _ _ _ _ _ _ _ _ _
-
 -- whether the memory has room, as the code asks it
-pub memory-is : (width cap shortest : ℕ) (t : Tables) (memory : Bool) → shortest ≡ shortestIn t → memory ≡ hasRoom width cap shortest (length (t .store)) → memory ≡ memoryOf width cap t
-memory-is width cap shortest t memory es em = em ∙ ap (λ (s : ℕ). hasRoom width cap s (length (t .store))) es ∙ room-is width cap t
+abbrev pub roomIn : ℕ → ℕ → Tables → Bool
+roomIn width cap t =
+    roomOf width cap (length (t .win)) (length (t .free)) (length (t .dues)) (length (t .seqs)) (length (t .arrivals)) (length (t .routes)) (length (t .copyIds))
+    (length (t .lengths)) (length (t .store))
+
+pub room-is : (width cap : ℕ) (t : Tables) (memory : Bool) → memory ≡ roomIn width cap t → memory ≡ memoryOf width cap t
+unfolding memoryOf
+room-is width cap t memory h = h

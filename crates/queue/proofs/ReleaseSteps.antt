@@ -4,7 +4,7 @@ use mathlib.Core.Bool.{Bool, true, false}
 use mathlib.Core.List.{List}
 use Prim.Native.Nat.{ℕ, _-_, _<_, _≤_}
 use lib.Ieee.{Float, le}
-use lib.ListN.{getD, length, set}
+use lib.ListN.{getD, set}
 use borrow.Author.Tests.{eq-eqb, ne-eqb, le-leb, lt-leb}
 use Rattle.numbers.specs.Refusals.{refusedKeeping}
 use Rattle.numbers.specs.Whole.{whole}
@@ -12,14 +12,13 @@ use Rattle.tournament.specs.Calls.{leaveOf, leastOf}
 use Rattle.tournament.specs.Growth.{tree}
 use Rattle.queue.specs.Tables.{Tables, After, after, rowsOf, treeOf, joined}
 use Rattle.queue.specs.Refusals.{memoryOf, releaseRefusal}
-use Rattle.queue.specs.Room.{hasRoom}
 use Rattle.queue.specs.Calls.{queuedOf, oneLess, notReleased, leftOf, dueOf, releaseOf}
 use Rattle.queue.specs.declared.queue.ImpairQueue.{ImpairQueue}
 use Rattle.queue.specs.declared.answers.Queued.{Queued}
 use Rattle.queue.specs.declared.answers.Released.{Released}
 use Rattle.queue.specs.declared.answers.ReleaseAnswer.{ReleaseAnswer}
 use Rattle.queue.specs.declared.answers.ReleaseAnswer.the-variants as release
-use Rattle.queue.proofs.RefusalSteps.{shortestIn, memory-is}
+use Rattle.queue.proofs.RefusalSteps.{roomIn, room-is}
 
 pub left-is : (q : ImpairQueue) (t : Tables) (slot : ℕ) (copy : Queued) (x : ImpairQueue) (w f : List ℕ) (d : List Float) (s : List ℕ)
     → copy ≡ queuedOf (t .dues) (t .seqs) (t .arrivals) (t .routes) (t .copyIds) (t .lengths) slot
@@ -31,10 +30,10 @@ unfolding leftOf
 left-is q t slot copy x w f d s ec ef eg ex =
     λ i. after (record { queue = ex i; answer = release.Released (ec i) }) (joined (eg i) (ef i) (rowsOf t))
 
-module _ (width : ℕ) (q : ImpairQueue) (t : Tables) (now : Float) (shortest : ℕ) (memory : Bool) (number : ℕ)
-    (es : shortest ≡ shortestIn t) (em : memory ≡ hasRoom width (q .cap) shortest (length (t .store))) (en : number ≡ releaseRefusal q memory now) where
+module _ (width : ℕ) (q : ImpairQueue) (t : Tables) (now : Float) (memory : Bool) (number : ℕ)
+    (em : memory ≡ roomIn width (q .cap) t) (en : number ≡ releaseRefusal q memory now) where
   asked : number ≡ releaseRefusal q (memoryOf width (q .cap) t) now
-  asked = en ∙ ap (λ (m : Bool). releaseRefusal q m now) (memory-is width (q .cap) shortest t memory es em)
+  asked = en ∙ ap (λ (m : Bool). releaseRefusal q m now) (room-is width (q .cap) t memory em)
 
   -- a call that changes nothing
   stays-at : (x : Released) (a : ReleaseAnswer) → x ≡ (record { queue = q; answer = a }) → after x t ≡ notReleased q a t

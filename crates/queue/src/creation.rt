@@ -63,7 +63,8 @@ impl ImpairQueue {
         if !in_range {
             return not_created(REFUSED_CAPACITY);
         }
-        let shortest = refusal::shortest(
+        let memory = refusal::has_room(
+            cap as u32,
             win.len(),
             free.len(),
             dues.len(),
@@ -72,8 +73,9 @@ impl ImpairQueue {
             routes.len(),
             copy_ids.len(),
             lengths.len(),
+            store.len(),
         );
-        if !refusal::has_room(cap as u32, shortest, store.len()) {
+        if !memory {
             return not_created(REFUSED_MEMORY);
         }
         Created {

@@ -226,7 +226,7 @@ impl ImpairQueue {
     ) -> Pushed
         ensures { λ r. ⌜ after r (tables (now (win .exit)) (now (free .entry)) (now (dues .exit)) (now (seqs .exit)) (now (arrivals .exit)) (now (routes .exit)) (now («copy_ids» .exit)) (now (lengths .exit)) (now (store .exit))) ≡ pushOf slotWidth self (tables (now (win .entry)) (now (free .entry)) (now (dues .entry)) (now (seqs .entry)) (now (arrivals .entry)) (now (routes .entry)) (now («copy_ids» .entry)) (now (lengths .entry)) (now (store .entry))) due arrival route «copy_id» duplicated (now (bytes .entry)) ⌝ }
     {
-        let shortest = refusal::shortest(
+        let memory = self.has_memory(
             win.len(),
             free.len(),
             dues.len(),
@@ -235,8 +235,8 @@ impl ImpairQueue {
             routes.len(),
             copy_ids.len(),
             lengths.len(),
+            store.len(),
         );
-        let memory = refusal::has_room(self.cap, shortest, store.len());
         let number = self.push_refusal(memory, due, arrival, bytes.len());
         if number != 0 {
             return not_pushed(self, number);

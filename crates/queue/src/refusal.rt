@@ -3,7 +3,6 @@ ghost use mathlib.Core.Path.{_≡_};
 ghost use Prim.Native.Nat.{min};
 ghost use Rattle.numbers.specs.Checks.{firstFailing};
 ghost use Rattle.queue.specs.Refusals.{queueChecks, slotWidth, roomOf, inKeeping, stateRefusal};
-ghost use Rattle.queue.specs.Room.{hasRoom, shortestOf};
 use crate::queue::ImpairQueue;
 use crate::store::SLOT_WIDTH;
 use numbers::MAX_CAPACITY;
@@ -59,17 +58,8 @@ fn lesser(a: usize, b: usize) -> usize
 }
 
 // The shortest of the tables, by their lengths.
-pub(crate) fn shortest(
-    a: usize,
-    b: usize,
-    c: usize,
-    d: usize,
-    e: usize,
-    f: usize,
-    g: usize,
-    h: usize,
-) -> usize
-    ensures { λ r. ⌜ r ≡ shortestOf a b c d e f g h ⌝ }
+fn shortest(a: usize, b: usize, c: usize, d: usize, e: usize, f: usize, g: usize, h: usize) -> usize
+    ensures { λ r. ⌜ r ≡ min (min (min a b) (min c d)) (min (min e f) (min g h)) ⌝ }
 {
     lesser(
         lesser(lesser(a, b), lesser(c, d)),
@@ -77,15 +67,27 @@ pub(crate) fn shortest(
     )
 }
 
-// Whether lent memory has room for a capacity, given the shortest of the tables and the length of the store.
-pub(crate) fn has_room(cap: u32, shortest: usize, store: usize) -> bool
-    ensures { λ r. ⌜ r ≡ hasRoom slotWidth cap shortest store ⌝ }
+// Whether lent tables and a store of these lengths have room for a capacity.
+pub(crate) fn has_room(
+    cap: u32,
+    win: usize,
+    free: usize,
+    dues: usize,
+    seqs: usize,
+    arrivals: usize,
+    routes: usize,
+    copy_ids: usize,
+    lengths: usize,
+    store: usize,
+) -> bool
+    ensures { λ r. ⌜ r ≡ roomOf slotWidth cap win free dues seqs arrivals routes «copy_ids» lengths store ⌝ }
 {
+    let shortest = shortest(win, free, dues, seqs, arrivals, routes, copy_ids, lengths);
     (cap as usize <= shortest) & (cap as usize * SLOT_WIDTH as usize <= store)
 }
 
 impl ImpairQueue {
-    // Whether lent tables and a store of these lengths have room for the capacity, as refusal 23 asks.
+    // Whether they have room for the queue's capacity, as refusal 23 asks.
     pub fn has_memory(
         self,
         win: usize,
@@ -100,8 +102,18 @@ impl ImpairQueue {
     ) -> bool
         ensures { λ r. ⌜ r ≡ roomOf slotWidth (self .cap) win free dues seqs arrivals routes «copy_ids» lengths store ⌝ }
     {
-        let shortest = shortest(win, free, dues, seqs, arrivals, routes, copy_ids, lengths);
-        has_room(self.cap, shortest, store)
+        has_room(
+            self.cap,
+            win,
+            free,
+            dues,
+            seqs,
+            arrivals,
+            routes,
+            copy_ids,
+            lengths,
+            store,
+        )
     }
 
     // Whether held ≤ opened ≤ leaves ≤ capacity ≤ 1,048,576.

@@ -119,7 +119,7 @@ impl ImpairQueue {
     ) -> Released
         ensures { λ r. ⌜ after r (tables (now (win .exit)) (now (free .exit)) (now (dues .exit)) (now (seqs .exit)) (now (arrivals .entry)) (now (routes .entry)) (now («copy_ids» .entry)) (now (lengths .entry)) (now (store .entry))) ≡ releaseOf slotWidth self (tables (now (win .entry)) (now (free .entry)) (now (dues .entry)) (now (seqs .entry)) (now (arrivals .entry)) (now (routes .entry)) (now («copy_ids» .entry)) (now (lengths .entry)) (now (store .entry))) «now_ms» ⌝ }
     {
-        let shortest = refusal::shortest(
+        let memory = self.has_memory(
             win.len(),
             free.len(),
             dues.len(),
@@ -128,8 +128,8 @@ impl ImpairQueue {
             routes.len(),
             copy_ids.len(),
             lengths.len(),
+            store.len(),
         );
-        let memory = refusal::has_room(self.cap, shortest, store.len());
         let number = self.release_refusal(memory, now_ms);
         if number != 0 {
             return self.stays(ReleaseAnswer::Refused(number));

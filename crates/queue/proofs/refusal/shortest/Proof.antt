@@ -1,5 +1,4 @@
 -- Seven minima by their contracts.
-use Rattle.queue.specs.Room.{shortestOf}
 use borrow.Author.Needs.{needs}
 use Rattle.queue.proofs.refusal.shortest.Statement.{statement}
 use Rattle.queue.proofs.refusal.shortest.Tie as tie
@@ -26,7 +25,6 @@ lesser-requires-7 : tie.Need-lesser-requires-7
 lesser-requires-7 c κs = search needs
 
 returns : tie.Need-returns
-unfolding shortestOf
 returns c = rw (c .lesser7 .ensures, c .before .lesser6 .ensures, c .before .before .lesser5 .ensures, c .before .before .before .lesser4 .ensures, c .before .before .before .before .lesser3 .ensures, c .before .before .before .before .before .lesser2 .ensures, c .before .before .before .before .before .before .lesser .ensures)
 
 pub shortest-spec : {M : Type 1} → statement M

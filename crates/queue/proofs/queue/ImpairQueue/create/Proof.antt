@@ -14,11 +14,8 @@ not-created-requires c κs = search needs
 returns : tie.Need-returns
 returns c = create-out _ _ _ _ (c .before .if1 .taken) (c .not-created .ensures)
 
-shortest-requires : tie.Need-shortest-requires
-shortest-requires c κs = search needs
-
 cast-has-room : tie.Need-cast-has-room
-cast-has-room c = omega (arith, cap-within (c .before .before .before .before .before .before .before .before .before .before .before .args .cap) (c .before .if1 .left))
+cast-has-room c = omega (arith, cap-within (c .before .before .before .before .before .before .before .before .before .before .args .cap) (c .if1 .left))
 
 has-room-requires : tie.Need-has-room-requires
 has-room-requires c κs = search needs
@@ -27,16 +24,16 @@ not-created-requires-2 : tie.Need-not-created-requires-2
 not-created-requires-2 c κs = search needs
 
 returns-2 : tie.Need-returns-2
-returns-2 c = create-short _ _ _ _ _ _ (c .before .before .before .before .if1 .left) (c .before .before .before .shortest .ensures) (c .before .before .has-room .ensures) (c .before .if2 .taken) (c .not-created2 .ensures)
+returns-2 c = create-short _ _ _ _ _ (c .before .before .before .if1 .left) (c .before .before .has-room .ensures) (c .before .if2 .taken) (c .not-created2 .ensures)
 
 cast-empty : tie.Need-cast-empty
-cast-empty c = omega (arith, cap-within (c .before .before .before .before .before .before .before .before .before .before .before .before .before .args .cap) (c .before .before .before .if1 .left))
+cast-empty c = omega (arith, cap-within (c .before .before .before .before .before .before .before .before .before .before .before .before .args .cap) (c .before .before .if1 .left))
 
 empty-requires : tie.Need-empty-requires
 empty-requires c κs = search needs
 
 returns-3 : tie.Need-returns-3
-returns-3 c = create-done _ _ _ _ _ _ (c .before .before .before .before .if1 .left) (c .before .before .before .shortest .ensures) (c .before .before .has-room .ensures) (c .before .if2 .left) (c .empty .ensures)
+returns-3 c = create-done _ _ _ _ _ (c .before .before .before .if1 .left) (c .before .before .has-room .ensures) (c .before .if2 .left) (c .empty .ensures)
 
 pub create-spec : {M : Type 1} → statement M
 create-spec =
@@ -45,7 +42,6 @@ create-spec =
     cast-in-range
     not-created-requires
     returns
-    shortest-requires
     cast-has-room
     has-room-requires
     not-created-requires-2

@@ -9,11 +9,8 @@ use borrow.Author.Needs.{needs}
 use Rattle.queue.proofs.queue.ImpairQueue.push.Statement.{statement}
 use Rattle.queue.proofs.queue.ImpairQueue.push.Tie as tie
 
-shortest-requires : tie.Need-shortest-requires
-shortest-requires c κs = search needs
-
-has-room-requires : tie.Need-has-room-requires
-has-room-requires c κs = search needs
+has-memory-requires : tie.Need-has-memory-requires
+has-memory-requires c κs = search needs
 
 push-refusal-requires : tie.Need-push-refusal-requires
 push-refusal-requires c κs = search needs
@@ -23,12 +20,12 @@ not-pushed-requires c κs = search needs
 
 returns : tie.Need-returns
 returns c =
-    let a = c .before .before .before .before .before .before .before .before .before .before .before .before .before .before .before .args in
-    push-refused slotWidth (a .self) (tables (a .win .now) (a .free .now) (a .dues .now) (a .seqs .now) (a .arrivals .now) (a .routes .now) (a .copy-ids .now) (a .lengths .now) (a .store .now)) (a .due) (a .arrival) (a .route) (a .copy-id) (a .duplicated) (a .bytes .now) _ _ _ (c .before .before .before .before .shortest .ensures) (c .before .before .before .has-room .ensures) (c .before .before .push-refusal .ensures) _ (c .before .if1 .taken) (c .not-pushed .ensures)
+    let a = c .before .before .before .before .before .before .before .before .before .before .before .before .before .before .args in
+    push-refused slotWidth (a .self) (tables (a .win .now) (a .free .now) (a .dues .now) (a .seqs .now) (a .arrivals .now) (a .routes .now) (a .copy-ids .now) (a .lengths .now) (a .store .now)) (a .due) (a .arrival) (a .route) (a .copy-id) (a .duplicated) (a .bytes .now) _ _ (c .before .before .before .has-memory .ensures) (c .before .before .push-refusal .ensures) _ (c .before .if1 .taken) (c .not-pushed .ensures)
 
 enter-copies-requires : tie.Need-enter-copies-requires
 enter-copies-requires c κs =
-    let a = c .before .before .before .before .before .before .before .before .before .before .before .before .before .before .before .before .before .before .before .before .before .before .args in
+    let a = c .before .before .before .before .before .before .before .before .before .before .before .before .before .before .before .before .before .before .before .before .before .args in
     let passed = push-passed slotWidth (a .self) _ (a .due) (a .arrival) _ (sym (c .before .before .before .before .before .before .before .before .before .push-refusal .ensures) ∙ c .before .before .before .before .before .before .before .before .if1 .left) in
     (passed .state .held-within, omega (arith, passed .state), omega (arith, passed .seq), omega (arith, passed .fits))
 
@@ -58,8 +55,8 @@ same-length-8 c = c .before .before .before .before .before .before .before .bef
 
 returns-2 : tie.Need-returns-2
 returns-2 c =
-    let a = c .before .before .before .before .before .before .before .before .before .before .before .before .before .before .before .before .before .before .before .before .before .before .before .before .before .before .before .before .before .before .before .before .before .before .before .before .before .before .before .args in
-    push-done slotWidth (a .self) (tables (a .win .now) (a .free .now) (a .dues .now) (a .seqs .now) (a .arrivals .now) (a .routes .now) (a .copy-ids .now) (a .lengths .now) (a .store .now)) (a .due) (a .arrival) (a .route) (a .copy-id) (a .duplicated) (a .bytes .now) _ _ _ (c .before .before .before .before .before .before .before .before .before .before .before .before .before .before .before .before .before .before .before .before .before .before .before .before .before .before .before .before .shortest .ensures) (c .before .before .before .before .before .before .before .before .before .before .before .before .before .before .before .before .before .before .before .before .before .before .before .before .before .before .before .has-room .ensures) (c .before .before .before .before .before .before .before .before .before .before .before .before .before .before .before .before .before .before .before .before .before .before .before .before .before .before .push-refusal .ensures) _ (c .before .before .before .before .before .before .before .before .before .before .before .before .before .before .before .before .before .before .before .before .before .before .before .before .before .if1 .left) (c .before .before .before .before .before .before .before .before .before .before .before .before .before .before .before .before .enter-copies .ensures)
+    let a = c .before .before .before .before .before .before .before .before .before .before .before .before .before .before .before .before .before .before .before .before .before .before .before .before .before .before .before .before .before .before .before .before .before .before .before .before .before .before .args in
+    push-done slotWidth (a .self) (tables (a .win .now) (a .free .now) (a .dues .now) (a .seqs .now) (a .arrivals .now) (a .routes .now) (a .copy-ids .now) (a .lengths .now) (a .store .now)) (a .due) (a .arrival) (a .route) (a .copy-id) (a .duplicated) (a .bytes .now) _ _ (c .before .before .before .before .before .before .before .before .before .before .before .before .before .before .before .before .before .before .before .before .before .before .before .before .before .before .before .has-memory .ensures) (c .before .before .before .before .before .before .before .before .before .before .before .before .before .before .before .before .before .before .before .before .before .before .before .before .before .before .push-refusal .ensures) _ (c .before .before .before .before .before .before .before .before .before .before .before .before .before .before .before .before .before .before .before .before .before .before .before .before .before .if1 .left) (c .before .before .before .before .before .before .before .before .before .before .before .before .before .before .before .before .enter-copies .ensures)
 
 pub push-spec : {M : Type 1} → statement M
-push-spec = tie.close (tie.spec shortest-requires has-room-requires push-refusal-requires not-pushed-requires returns enter-copies-requires same-length same-length-2 same-length-3 same-length-4 same-length-5 same-length-6 same-length-7 same-length-8 returns-2)
+push-spec = tie.close (tie.spec has-memory-requires push-refusal-requires not-pushed-requires returns enter-copies-requires same-length same-length-2 same-length-3 same-length-4 same-length-5 same-length-6 same-length-7 same-length-8 returns-2)

@@ -9,11 +9,8 @@ use borrow.Author.Needs.{needs}
 use Rattle.queue.proofs.queue.ImpairQueue.release.Statement.{statement}
 use Rattle.queue.proofs.queue.ImpairQueue.release.Tie as tie
 
-shortest-requires : tie.Need-shortest-requires
-shortest-requires c κs = search needs
-
-has-room-requires : tie.Need-has-room-requires
-has-room-requires c κs = search needs
+has-memory-requires : tie.Need-has-memory-requires
+has-memory-requires c κs = search needs
 
 release-refusal-requires : tie.Need-release-refusal-requires
 release-refusal-requires c κs = search needs
@@ -23,16 +20,16 @@ stays-requires c κs = search needs
 
 returns : tie.Need-returns
 returns c =
-    let a = c .before .before .before .before .before .before .before .before .before .before .before .before .before .before .args in
-    release-refused slotWidth (a .self) (tables (a .win .now) (a .free .now) (a .dues .now) (a .seqs .now) (a .arrivals .now) (a .routes .now) (a .copy-ids .now) (a .lengths .now) (a .store .now)) (a .now-ms) _ _ _ (c .before .before .before .before .shortest .ensures) (c .before .before .before .has-room .ensures) (c .before .before .release-refusal .ensures) _ (c .before .if1 .taken) (c .stays .ensures)
+    let a = c .before .before .before .before .before .before .before .before .before .before .before .before .before .args in
+    release-refused slotWidth (a .self) (tables (a .win .now) (a .free .now) (a .dues .now) (a .seqs .now) (a .arrivals .now) (a .routes .now) (a .copy-ids .now) (a .lengths .now) (a .store .now)) (a .now-ms) _ _ (c .before .before .before .has-memory .ensures) (c .before .before .release-refusal .ensures) _ (c .before .if1 .taken) (c .stays .ensures)
 
 stays-requires-2 : tie.Need-stays-requires-2
 stays-requires-2 c κs = search needs
 
 returns-2 : tie.Need-returns-2
 returns-2 c =
-    let a = c .before .before .before .before .before .before .before .before .before .before .before .before .before .before .before .before .args in
-    release-empty slotWidth (a .self) (tables (a .win .now) (a .free .now) (a .dues .now) (a .seqs .now) (a .arrivals .now) (a .routes .now) (a .copy-ids .now) (a .lengths .now) (a .store .now)) (a .now-ms) _ _ _ (c .before .before .before .before .before .before .shortest .ensures) (c .before .before .before .before .before .has-room .ensures) (c .before .before .before .before .release-refusal .ensures) _ (c .before .before .before .if1 .left) (c .before .if2 .taken) (c .stays2 .ensures)
+    let a = c .before .before .before .before .before .before .before .before .before .before .before .before .before .before .before .args in
+    release-empty slotWidth (a .self) (tables (a .win .now) (a .free .now) (a .dues .now) (a .seqs .now) (a .arrivals .now) (a .routes .now) (a .copy-ids .now) (a .lengths .now) (a .store .now)) (a .now-ms) _ _ (c .before .before .before .before .before .has-memory .ensures) (c .before .before .before .before .release-refusal .ensures) _ (c .before .before .before .if1 .left) (c .before .if2 .taken) (c .stays2 .ensures)
 
 least-requires : tie.Need-least-requires
 least-requires c κs = search needs
@@ -45,8 +42,8 @@ same-length c = search needs
 
 returns-3 : tie.Need-returns-3
 returns-3 c =
-    let a = c .before .before .before .before .before .before .before .before .before .before .before .before .before .before .before .before .before .before .before .before .args in
-    release-unfit slotWidth (a .self) (tables (a .win .now) (a .free .now) (a .dues .now) (a .seqs .now) (a .arrivals .now) (a .routes .now) (a .copy-ids .now) (a .lengths .now) (a .store .now)) (a .now-ms) _ _ _ (c .before .before .before .before .before .before .before .before .before .before .shortest .ensures) (c .before .before .before .before .before .before .before .before .before .has-room .ensures) (c .before .before .before .before .before .before .before .before .release-refusal .ensures) _ (c .before .before .before .before .before .before .before .if1 .left) (c .before .before .before .before .before .if2 .left) (c .before .before .before .least .ensures) _ (c .before .if3 .taken) (c .stays3 .ensures)
+    let a = c .before .before .before .before .before .before .before .before .before .before .before .before .before .before .before .before .before .before .before .args in
+    release-unfit slotWidth (a .self) (tables (a .win .now) (a .free .now) (a .dues .now) (a .seqs .now) (a .arrivals .now) (a .routes .now) (a .copy-ids .now) (a .lengths .now) (a .store .now)) (a .now-ms) _ _ (c .before .before .before .before .before .before .before .before .before .has-memory .ensures) (c .before .before .before .before .before .before .before .before .release-refusal .ensures) _ (c .before .before .before .before .before .before .before .if1 .left) (c .before .before .before .before .before .if2 .left) (c .before .before .before .least .ensures) _ (c .before .if3 .taken) (c .stays3 .ensures)
 
 cast-get-f64 : tie.Need-cast-get-f64
 cast-get-f64 c = search needs
@@ -71,13 +68,13 @@ same-length-5 c = search needs
 
 returns-5 : tie.Need-returns-5
 returns-5 c =
-    let a = c .before .before .before .before .before .before .before .before .before .before .before .before .before .before .before .before .before .before .before .before .before .before .before .args in
-    release-later slotWidth (a .self) (tables (a .win .now) (a .free .now) (a .dues .now) (a .seqs .now) (a .arrivals .now) (a .routes .now) (a .copy-ids .now) (a .lengths .now) (a .store .now)) (a .now-ms) _ _ _ (c .before .before .before .before .before .before .before .before .before .before .before .before .before .shortest .ensures) (c .before .before .before .before .before .before .before .before .before .before .before .before .has-room .ensures) (c .before .before .before .before .before .before .before .before .before .before .before .release-refusal .ensures) _ (c .before .before .before .before .before .before .before .before .before .before .if1 .left) (c .before .before .before .before .before .before .before .before .if2 .left) (c .before .before .before .before .before .before .least .ensures) _ _ (c .before .before .before .before .if3 .left) (c .before .before .get-f64 .ensures) (c .before .if4 .left) (c .stays4 .ensures)
+    let a = c .before .before .before .before .before .before .before .before .before .before .before .before .before .before .before .before .before .before .before .before .before .before .args in
+    release-later slotWidth (a .self) (tables (a .win .now) (a .free .now) (a .dues .now) (a .seqs .now) (a .arrivals .now) (a .routes .now) (a .copy-ids .now) (a .lengths .now) (a .store .now)) (a .now-ms) _ _ (c .before .before .before .before .before .before .before .before .before .before .before .before .has-memory .ensures) (c .before .before .before .before .before .before .before .before .before .before .before .release-refusal .ensures) _ (c .before .before .before .before .before .before .before .before .before .before .if1 .left) (c .before .before .before .before .before .before .before .before .if2 .left) (c .before .before .before .before .before .before .least .ensures) _ _ (c .before .before .before .before .if3 .left) (c .before .before .get-f64 .ensures) (c .before .if4 .left) (c .stays4 .ensures)
 
 returns-4 : tie.Need-returns-4
 returns-4 c =
-    let a = c .before .before .before .before .before .before .before .before .before .before .before .before .before .before .before .before .before .before .before .before .before .before .before .before .before .before .before .before .before .before .before .before .before .before .before .args in
-    release-done slotWidth (a .self) (tables (a .win .now) (a .free .now) (a .dues .now) (a .seqs .now) (a .arrivals .now) (a .routes .now) (a .copy-ids .now) (a .lengths .now) (a .store .now)) (a .now-ms) _ _ _ (c .before .before .before .before .before .before .before .before .before .before .before .before .before .before .before .before .before .before .before .before .before .before .before .before .before .shortest .ensures) (c .before .before .before .before .before .before .before .before .before .before .before .before .before .before .before .before .before .before .before .before .before .before .before .before .has-room .ensures) (c .before .before .before .before .before .before .before .before .before .before .before .before .before .before .before .before .before .before .before .before .before .before .before .release-refusal .ensures) _ (c .before .before .before .before .before .before .before .before .before .before .before .before .before .before .before .before .before .before .before .before .before .before .if1 .left) (c .before .before .before .before .before .before .before .before .before .before .before .before .before .before .before .before .before .before .before .before .if2 .left) (c .before .before .before .before .before .before .before .before .before .before .before .before .before .before .before .before .before .before .least .ensures) _ _ (c .before .before .before .before .before .before .before .before .before .before .before .before .before .before .before .before .if3 .left) (c .before .before .before .before .before .before .before .before .before .before .before .before .before .before .get-f64 .ensures) (c .before .before .before .before .before .before .before .before .before .before .before .before .before .if4 .taken) (c .before .before .before .before .before .before .before .before .release-slot .ensures)
+    let a = c .before .before .before .before .before .before .before .before .before .before .before .before .before .before .before .before .before .before .before .before .before .before .before .before .before .before .before .before .before .before .before .before .before .before .args in
+    release-done slotWidth (a .self) (tables (a .win .now) (a .free .now) (a .dues .now) (a .seqs .now) (a .arrivals .now) (a .routes .now) (a .copy-ids .now) (a .lengths .now) (a .store .now)) (a .now-ms) _ _ (c .before .before .before .before .before .before .before .before .before .before .before .before .before .before .before .before .before .before .before .before .before .before .before .before .has-memory .ensures) (c .before .before .before .before .before .before .before .before .before .before .before .before .before .before .before .before .before .before .before .before .before .before .before .release-refusal .ensures) _ (c .before .before .before .before .before .before .before .before .before .before .before .before .before .before .before .before .before .before .before .before .before .before .if1 .left) (c .before .before .before .before .before .before .before .before .before .before .before .before .before .before .before .before .before .before .before .before .if2 .left) (c .before .before .before .before .before .before .before .before .before .before .before .before .before .before .before .before .before .before .least .ensures) _ _ (c .before .before .before .before .before .before .before .before .before .before .before .before .before .before .before .before .if3 .left) (c .before .before .before .before .before .before .before .before .before .before .before .before .before .before .get-f64 .ensures) (c .before .before .before .before .before .before .before .before .before .before .before .before .before .if4 .taken) (c .before .before .before .before .before .before .before .before .release-slot .ensures)
 
 stays-requires-4 : tie.Need-stays-requires-4
 stays-requires-4 c κs = search needs
@@ -92,8 +89,7 @@ pub release-spec : {M : Type 1} → statement M
 release-spec =
     tie.close
     (tie.spec
-    shortest-requires
-    has-room-requires
+    has-memory-requires
     release-refusal-requires
     stays-requires
     returns
