@@ -6,6 +6,7 @@ use Prim.Native.Nat.{ℕ, _+_}
 use lib.Dec.{leb, eqb}
 use lib.Ieee.{Float, isNan}
 use lib.ListN.{length}
+use Rattle.numbers.specs.Checks.{Check, check, firstFailing}
 use Rattle.numbers.specs.Instant.{isInstantOf}
 use Rattle.numbers.specs.Limits.{isCounterOf}
 use Rattle.numbers.specs.Refusals.{refusedInstant, refusedLength, refusedCounter, refusedDue, refusedFull}
@@ -49,6 +50,10 @@ pub record Step : Type 0 where
 abbrev pub stepTo : Reply → Plain → Step
 stepTo r p = record { reply = r; then = p }
 
+-- a refusal by that number, which changes nothing, or else the step where it is 0
+abbrev pub unlessRefused : Plain → ℕ → Step → Step
+unlessRefused p k s = cond (eqb k 0) s (stepTo (refused k) p)
+
 abbrev pub isFull : Plain → Bool
 isFull p = eqb (length (p .held)) (p .cap)
 
@@ -61,47 +66,52 @@ unfoldable pub secondPlain : ℕ → Plain → Float → Float → ℕ → Bool 
 secondPlain seq p due arrival route duplicated bytes =
     cond (duplicated && not (isFull p)) (stepTo (entered seq 2) (withCopy p due arrival route 1 bytes)) (stepTo (entered seq 1) p)
 
--- 21 (the arrival), 22, 27, 25, 28, judged once; else the copies enter
+-- 21 (the arrival), 22, 27, 25, 28
+abbrev pub pushChecks : ℕ → Plain → Float → Float → ℕ → List Check
+pushChecks width p due arrival n =
+    check (isInstantOf arrival) refusedInstant ∷ check (leb n width) refusedLength ∷ check (not (isNan due)) refusedDue ∷ check (isCounterOf (p .nextSeq)) refusedCounter
+    ∷ check (not (isFull p)) refusedFull ∷ []
+
+-- judged once; then the copies enter
 unfoldable pub pushPlain : ℕ → Plain → Float → Float → ℕ → ℕ → Bool → List ℕ → Step
 pushPlain width p due arrival route id duplicated bytes =
-    cond (not (isInstantOf arrival)) (stepTo (refused refusedInstant) p)
-    (cond (not (leb (length bytes) width)) (stepTo (refused refusedLength) p)
-    (cond (isNan due) (stepTo (refused refusedDue) p)
-    (cond (not (isCounterOf (p .nextSeq))) (stepTo (refused refusedCounter) p)
-    (cond (isFull p) (stepTo (refused refusedFull) p)
-    (secondPlain (p .nextSeq) (withCopy p due arrival route id bytes) due arrival route duplicated bytes)))))
+    unlessRefused p (firstFailing (pushChecks width p due arrival (length bytes)))
+    (secondPlain (p .nextSeq) (withCopy p due arrival route id bytes) due arrival route duplicated bytes)
 
 -- the copy that leaves is handed out, and all but it are left
 unfoldable pub handOut : Plain → Leaving → Step
 handOut p noCopy = stepTo noneDue p
 handOut p (oneCopy c) = stepTo (released c) (plain (p .cap) (without (c .seq) (p .held)) (p .nextSeq))
 
--- 21, 25; else the least copy that is due leaves
-unfoldable pub releasePlain : Plain → Float → Step
-releasePlain p now =
-    cond (not (isInstantOf now)) (stepTo (refused refusedInstant) p)
-    (cond (not (isCounterOf (p .nextSeq))) (stepTo (refused refusedCounter) p)
-    (handOut p (leaving now (p .held))))
+-- 21, 25
+abbrev pub releaseChecks : Plain → Float → List Check
+releaseChecks p now = check (isInstantOf now) refusedInstant ∷ check (isCounterOf (p .nextSeq)) refusedCounter ∷ []
 
--- 25; else all leave, and their number is told
+-- the least copy that is due leaves
+unfoldable pub releasePlain : Plain → Float → Step
+releasePlain p now = unlessRefused p (firstFailing (releaseChecks p now)) (handOut p (leaving now (p .held)))
+
+-- 25
+abbrev pub stateChecks : Plain → List Check
+stateChecks p = check (isCounterOf (p .nextSeq)) refusedCounter ∷ []
+
+-- all leave, and their number is told
 unfoldable pub drainPlain : Plain → Step
-drainPlain p =
-    cond (not (isCounterOf (p .nextSeq))) (stepTo (refused refusedCounter) p)
-    (stepTo (drained (length (p .held))) (plain (p .cap) [] (p .nextSeq)))
+drainPlain p = unlessRefused p (firstFailing (stateChecks p)) (stepTo (drained (length (p .held))) (plain (p .cap) [] (p .nextSeq)))
 
 unfoldable pub leastDue : List Copy → Reply
 leastDue [] = noneHeld
 leastDue (c ∷ l) = dueNext (least c l .due)
 
--- 25; else the least copy's due, or that none is held
-unfoldable pub nextDuePlain : Plain → Reply
-nextDuePlain p = cond (not (isCounterOf (p .nextSeq))) (refused refusedCounter) (leastDue (p .held))
+-- the least copy's due, or that none is held
+unfoldable pub nextDuePlain : Plain → Step
+nextDuePlain p = unlessRefused p (firstFailing (stateChecks p)) (stepTo (leastDue (p .held)) p)
 
 unfoldable pub step : ℕ → Plain → Call → Step
 step width p (push d a r c dup b) = pushPlain width p d a r c dup b
 step width p (release now) = releasePlain p now
 step width p drain = drainPlain p
-step width p nextDue = stepTo (nextDuePlain p) p
+step width p nextDue = nextDuePlain p
 step width p len = stepTo (holds (length (p .held))) p
 step width p isEmpty = stepTo (tells (eqb (length (p .held)) 0)) p
 -- the memory that was lent has room

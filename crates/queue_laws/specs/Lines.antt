@@ -5,8 +5,9 @@ use mathlib.Core.List.{List, [], _∷_}
 use Prim.Native.Nat.{ℕ}
 use lib.IntN.{pos}
 use lib.Ieee.{Float, inf, fin, lt, le, isNan, ofInt}
+use Rattle.numbers.specs.Checks.{firstFailing}
 use Rattle.numbers.specs.Instant.{isInstantOf}
-use Rattle.numbers.specs.Limits.{isCounterOf}
+use Rattle.numbers.specs.Limits.{maxExact, isCounterOf}
 use Rattle.numbers.specs.Whole.{whole}
 use Rattle.held.specs.Order.{beforeOf}
 use Rattle.queue.specs.Refusals.{slotWidth}
@@ -37,8 +38,8 @@ pub record QueueLines : Type 0 where
   -- a later copy that is due earlier leaves first, at its due and not before
   pub due : replies 2 (at (whole 9) ∷ at (whole 8) ∷ release (whole 7) ∷ release (whole 8) ∷ release (whole 8) ∷ []) ≡ (entered 0 1 ∷ entered 1 1 ∷ noneDue ∷ out (whole 8) 1 ∷ noneDue ∷ [])
   -- an infinite due waits until all are torn down
-  pub infinite : replies 2 (at (inf false) ∷ at (whole 1) ∷ release (whole 9007199254740992) ∷ release (whole 9007199254740992) ∷ drain ∷ []) ≡ (entered 0 1 ∷ entered 1 1 ∷ out (whole 1) 1 ∷ noneDue ∷ drained 1 ∷ [])
+  pub infinite : replies 2 (at (inf false) ∷ at (whole 1) ∷ release (whole maxExact) ∷ release (whole maxExact) ∷ drain ∷ []) ≡ (entered 0 1 ∷ entered 1 1 ∷ out (whole 1) 1 ∷ noneDue ∷ drained 1 ∷ [])
 
 pub queue-lines : QueueLines
-unfolding run step pushPlain secondPlain releasePlain handOut drainPlain leaving leastIn dueBy least without beforeOf isInstantOf isCounterOf lt le isNan ofInt
+unfolding run step firstFailing pushPlain secondPlain releasePlain handOut drainPlain leaving leastIn dueBy least without beforeOf isInstantOf isCounterOf lt le isNan ofInt
 queue-lines = record { full = refl; both = refl; tie = refl; due = refl; infinite = refl }

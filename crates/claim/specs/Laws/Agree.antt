@@ -96,7 +96,7 @@ module _ {A : Type 0} (P : A → Step → Type 0) (m : Machine) (done : A) (no :
 
 -- where 25 lets the next seq through, the queue's drain tells how many were held
 drains : (p : Plain) → isCounterOf (p .nextSeq) ≡ true → drainPlain p ≡ queueStepTo (drained (length (p .held))) (plain (p .cap) [] (p .nextSeq))
-unfolding drainPlain
+unfolding drainPlain firstFailing
 drains p next = rw next
 
 pub drains-all : (m : Machine) (q : ImpairQueue) (t : Tables) → Keeps slotWidth t q (queueOf m) → isCounterOf (m .nextSeq) ≡ true

@@ -8,6 +8,7 @@ use lib.Dec.{ltb}
 use lib.Ieee.{Float, isNan}
 use lib.ListN.{length, length-append}
 use borrow.Author.Tests.{le-leb, lt-ltb, le-ltb, eqb-true, eqb-false}
+use Rattle.numbers.specs.Checks.{firstFailing}
 use Rattle.numbers.specs.Instant.{isInstantOf}
 use Rattle.numbers.specs.Laws.NotNan.{cond-has}
 use Rattle.numbers.specs.Limits.{maxLength, isCounterOf}
@@ -23,7 +24,7 @@ use Rattle.queue.specs.declared.answers.PushAnswer.{PushAnswer}
 use Rattle.queue.specs.declared.answers.PushAnswer.the-variants as push
 use Rattle.queue.specs.declared.answers.Pushed.{Pushed}
 use Rattle.queue.specs.declared.queue.ImpairQueue.{ImpairQueue}
-use Rattle.queue_laws.specs.Held.{Reply, stepTo as queueStepTo, entered, refused, isFull, secondPlain, pushPlain}
+use Rattle.queue_laws.specs.Held.{Reply, stepTo as queueStepTo, entered, refused, unlessRefused, isFull, secondPlain, pushPlain}
 use Rattle.queue_laws.specs.Laws.Agree.{Agree, push-agrees, held-within}
 use Rattle.queue_laws.specs.Laws.Keeps.{Keeps}
 use Rattle.queue_laws.specs.Replies.{saidOfPush, saidByPush}
@@ -148,8 +149,13 @@ module _ (m : Machine) (q : ImpairQueue) (t : Tables) (keeps : Keeps slotWidth t
 
     passes : (duplicated : Bool) → pushPlain slotWidth (queueOf m) due now route 0 duplicated bytes
         ≡ cond (isFull (queueOf m)) (queueStepTo (refused refusedFull) (queueOf m)) (secondPlain (m .nextSeq) (queueOf one) due now route duplicated bytes)
-    unfolding pushPlain
-    passes duplicated = rw (p .instant, le-leb (length bytes) slotWidth (p .short), p .number, next)
+    unfolding pushPlain firstFailing
+    passes duplicated = rw (p .instant, le-leb (length bytes) slotWidth (p .short), p .number, next) (by-room (isFull (queueOf m)))
+      where
+        by-room : (full : Bool) → unlessRefused (queueOf m) (cond (not full) 0 refusedFull) (secondPlain (m .nextSeq) (queueOf one) due now route duplicated bytes)
+            ≡ cond full (queueStepTo (refused refusedFull) (queueOf m)) (secondPlain (m .nextSeq) (queueOf one) due now route duplicated bytes)
+        by-room true = refl
+        by-room false = refl
 
     agrees : (duplicated : Bool) → Agree slotWidth (saidByPush (pushed duplicated))
         (cond (isFull (queueOf m)) (queueStepTo (refused refusedFull) (queueOf m)) (secondPlain (m .nextSeq) (queueOf one) due now route duplicated bytes))

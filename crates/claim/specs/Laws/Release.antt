@@ -5,6 +5,7 @@ use Prim.Native.Nat.{ℕ, _≤_}
 use native.Mathlib.Omega.{arith}
 use lib.Ieee.{Float, binary64, sub}
 use borrow.Author.Tests.{le-leb}
+use Rattle.numbers.specs.Checks.{firstFailing}
 use Rattle.numbers.specs.Instant.{isInstantOf}
 use Rattle.numbers.specs.Limits.{maxLength, isLengthOf, isCounterOf}
 use Rattle.accounts.specs.Accountant.{sentOf}
@@ -98,7 +99,7 @@ module _ (m : Machine) (sound : SoundEngine (m .engine)) (short : AllShort (m .h
 
 -- the queue's release, where it is not refused
 release-passed : (p : Plain) (now : Float) → isInstantOf now ≡ true → isCounterOf (p .nextSeq) ≡ true → releasePlain p now ≡ queueHandOut p (leaving now (p .held))
-unfolding releasePlain
+unfolding releasePlain firstFailing
 release-passed p now instant next = rw (instant, next)
 
 module _ (m : Machine) (q : ImpairQueue) (t : Tables) (now : Float) (keeps : Keeps slotWidth t q (queueOf m)) (sound : SoundEngine (m .engine)) (short : AllShort (m .held)) where

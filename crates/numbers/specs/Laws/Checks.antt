@@ -1,10 +1,10 @@
--- Where no test fails all pass, and the other way round.
+-- Where no test fails all pass, and the other way round; and what every failing test's number has, the first one's has.
 use mathlib.Core.Path.{_≡_, refl}
 use mathlib.Core.Logic.{_≢_}
 use mathlib.Core.Bool.{Bool, true, false, cond}
 use mathlib.Core.List.{List, [], _∷_}
 use Prim.Native.Nat.{ℕ}
-use Rattle.numbers.specs.Checks.{Check, check, firstFailing}
+use Rattle.numbers.specs.Checks.{Check, firstFailing}
 
 -- each test of a list passes
 abbrev pub AllPass : List Check → Type 0
@@ -29,3 +29,17 @@ pub all-passing : (cs : List Check) → AllPass cs → firstFailing cs ≡ 0
 unfolding firstFailing
 all-passing [] p = refl
 all-passing (c ∷ cs) p = rw (p .0) (all-passing cs (p .1))
+
+-- the number of each test that fails has the property
+abbrev pub AllFailing : (ℕ → Type 0) → List Check → Type 0
+AllFailing P [] = Unit {0}
+AllFailing P (c ∷ cs) = (c .passes ≡ false → P (c .number)) × AllFailing P cs
+
+pub first-has : (P : ℕ → Type 0) (cs : List Check) → P 0 → AllFailing P cs → P (firstFailing cs)
+unfolding firstFailing
+first-has P [] none h = none
+first-has P (c ∷ cs) none h = go (c .passes) refl (first-has P cs none (h .1))
+  where
+    go : (b : Bool) → c .passes ≡ b → P (firstFailing cs) → P (cond b (firstFailing cs) (c .number))
+    go true p rest = rest
+    go false p rest = h .0 p

@@ -8,26 +8,27 @@ use native.Mathlib.Omega.{arith}
 use lib.Dec.{leb, eqb}
 use lib.Ieee.{Float, le, isNan}
 use lib.ListN.{length, getD}
-use borrow.Author.Tests.{le-leb, lt-leb, ne-eqb, leb-true, eqb-false, not-true}
+use borrow.Author.Tests.{le-leb, lt-leb, eq-eqb, ne-eqb, leb-true, eqb-true, eqb-false, not-true}
 use Rattle.numbers.specs.Checks.{firstFailing}
-use Rattle.numbers.specs.Instant.{isInstantOf}
 use Rattle.numbers.specs.Laws.Both.{both, both-true}
+use Rattle.numbers.specs.Laws.Checks.{none-failing}
 use Rattle.numbers.specs.Laws.Limits.{counter-below}
 use Rattle.numbers.specs.Limits.{maxCapacity, counterLimit, isCounterOf}
-use Rattle.numbers.specs.Refusals.{refusedInstant, refusedLength, refusedCounter, refusedDue, refusedFull}
 use Rattle.numbers.specs.Whole.{whole}
-use Rattle.held.specs.Copies.{Copy, dueBy, leastIn, Leaving, leaving}
+use Rattle.held.specs.Copies.{Copy, dueBy, leastIn, leaving}
 use Rattle.held.specs.Laws.Due.{ifDue, least-due}
 use Rattle.tournament.specs.Calls.{leastOf}
 use Rattle.queue.specs.Tables.{Tables, After, after}
-use Rattle.queue.specs.Refusals.{memoryOf, inKeeping, queueChecks, pushRefusal, releaseRefusal, stateRefusal, dueRefusal}
-use Rattle.queue.specs.Calls.{notPushed, AfterCopy, enterCopyOf, toldOf, told, againOf, secondOf, enterCopiesOf, pushOf, notReleased, leftOf, dueOf, releaseOf, drainOf, dueAt, nextDueOf, lenOf, isEmptyOf}
+use Rattle.queue.specs.Refusals.{memoryOf, inKeeping, pushRefusal, releaseRefusal, stateRefusal, dueRefusal}
+use Rattle.queue.specs.Calls.{fresh, notPushed, AfterCopy, enterCopyOf, toldOf, told, againOf, secondOf, enterCopiesOf, pushOf, notReleased, leftOf, dueOf, releaseOf, drainOf, dueAt, nextDueOf, lenOf, isEmptyOf}
 use Rattle.queue.specs.declared.queue.ImpairQueue.{ImpairQueue}
+use Rattle.queue.specs.declared.answers.DrainAnswer.the-variants as drain
+use Rattle.queue.specs.declared.answers.DueAnswer.{DueAnswer}
+use Rattle.queue.specs.declared.answers.DueAnswer.the-variants as due
 use Rattle.queue.specs.declared.answers.Released.{Released}
 use Rattle.queue.specs.declared.answers.ReleaseAnswer.the-variants as release
-use Rattle.queue_laws.specs.Held.{Plain, Step, stepTo, entered, noneDue, drained, dueNext, refused, isFull, withCopy, secondPlain, pushPlain, handOut, releasePlain, drainPlain, leastDue, nextDuePlain}
+use Rattle.queue_laws.specs.Held.{Plain, Step, stepTo, entered, noneDue, drained, dueNext, refused, unlessRefused, isFull, withCopy, secondPlain, pushChecks, pushPlain, handOut, releaseChecks, releasePlain, stateChecks, drainPlain, leastDue, nextDuePlain}
 use Rattle.queue_laws.specs.Replies.{Said, said, saidByPush, saidByRelease, saidByDrain, saidOfDue}
-use Rattle.queue_laws.specs.Laws.Rows.{seqLimit}
 use Rattle.queue_laws.specs.Laws.Keeps.{Keeps, rowOf}
 use Rattle.queue_laws.specs.Laws.Creation.{long-memory, drained-keeps}
 use Rattle.queue_laws.specs.Laws.Push.{Entered, copy-enters}
@@ -82,35 +83,31 @@ module _ (width : ℕ) (t : Tables) (q : ImpairQueue) (p : Plain) (k : Keeps wid
   same-counter : isCounterOf (q .«next_seq») ≡ isCounterOf (p .nextSeq)
   same-counter = rw (k .same-next)
 
-  push-tests : (due arrival : Float) (len : ℕ) → pushRefusal width q (memoryOf width (q .cap) t) due arrival len
-      ≡ firstFailing (queueChecks true (isInstantOf arrival) (leb len width) (not (isNan due)) (isCounterOf (p .nextSeq)) true (not (isFull p)))
-  unfolding pushRefusal
-  push-tests due arrival len = rw (memory-holds, keeping-holds, same-full width t q p k, same-counter)
+  push-number : (due arrival : Float) (len : ℕ) → pushRefusal width q (memoryOf width (q .cap) t) due arrival len ≡ firstFailing (pushChecks width p due arrival len)
+  unfolding pushRefusal firstFailing
+  push-number due arrival len = rw (memory-holds, keeping-holds, same-full width t q p k, same-counter)
 
-  release-tests : (now : Float) → releaseRefusal q (memoryOf width (q .cap) t) now ≡ firstFailing (queueChecks true (isInstantOf now) true true (isCounterOf (p .nextSeq)) true true)
-  unfolding releaseRefusal
-  release-tests now = rw (memory-holds, keeping-holds, same-counter)
+  release-number : (now : Float) → releaseRefusal q (memoryOf width (q .cap) t) now ≡ firstFailing (releaseChecks p now)
+  unfolding releaseRefusal firstFailing
+  release-number now = rw (memory-holds, keeping-holds, same-counter)
 
-  state-tests : stateRefusal q true ≡ firstFailing (queueChecks true true true true (isCounterOf (p .nextSeq)) true true)
-  unfolding stateRefusal
-  state-tests = rw (keeping-holds, same-counter)
+  state-number : stateRefusal q true ≡ firstFailing (stateChecks p)
+  unfolding stateRefusal firstFailing
+  state-number = rw (keeping-holds, same-counter)
 
-  -- a refusal, whatever its number
-  refuses : (n : ℕ) → Agree width (said (refused n) q t) (stepTo (refused n) p)
-  refuses n = record { says = refl; keeps = k }
+  -- a call that is refused by the number by which the plain queue refuses, and else does what its step does
+  by-number : {A : Type 0} (says : A → Said) (done : A) (refusal : ℕ → A) (s : Step) → ((n : ℕ) → says (refusal n) ≡ said (refused n) q t) → (n m : ℕ) → n ≡ m
+      → (m ≡ 0 → Agree width (says done) s)
+      → Agree width (says (cond (eqb n 0) done (refusal n))) (unlessRefused p m s)
+  by-number says done refusal s refuses n m same h = rw same (go (eqb m 0) refl)
+    where
+      go : (b : Bool) → eqb m 0 ≡ b → Agree width (says (cond (eqb m 0) done (refusal m))) (unlessRefused p m s)
+      go true e = rw e (h (eqb-true m 0 e))
+      go false e = rw e (rw (refuses m) (record { says = refl; keeps = k }))
 
   -- ---- push
 
   module _ (due arrival : Float) (route id : ℕ) (duplicated : Bool) (bytes : List ℕ) where
-    push-refused : (n : ℕ) → (n ≡ 0 → ⊥) → pushRefusal width q (memoryOf width (q .cap) t) due arrival (length bytes) ≡ n → pushOf width q t due arrival route id duplicated bytes ≡ after (notPushed q n) t
-    unfolding pushOf
-    push-refused n some e = rw (e, ne-eqb n 0 some)
-
-    push-passes : pushRefusal width q (memoryOf width (q .cap) t) due arrival (length bytes) ≡ 0
-        → pushOf width q t due arrival route id duplicated bytes ≡ secondOf width (q .«next_seq») due arrival route duplicated bytes (enterCopyOf width q t due arrival route id bytes)
-    unfolding pushOf enterCopiesOf
-    push-passes e = rw e
-
     -- the first copy enters, then what follows it
     push-enters : isFull p ≡ false → isNan due ≡ false → length bytes ≤ width → p .nextSeq < counterLimit
         → Agree width (saidByPush (secondOf width (q .«next_seq») due arrival route duplicated bytes (enterCopyOf width q t due arrival route id bytes)))
@@ -123,19 +120,16 @@ module _ (width : ℕ) (t : Tables) (q : ImpairQueue) (p : Plain) (k : Keeps wid
 
     -- a push, on any arguments
     pub push-agrees : Agree width (saidByPush (pushOf width q t due arrival route id duplicated bytes)) (pushPlain width p due arrival route id duplicated bytes)
-    unfolding pushPlain firstFailing
-    push-agrees = go (isInstantOf arrival) refl (leb (length bytes) width) refl (isNan due) refl (isCounterOf (p .nextSeq)) refl (isFull p) refl
+    unfolding pushOf enterCopiesOf pushPlain
+    push-agrees =
+        by-number saidByPush (enterCopiesOf width q t due arrival route id duplicated bytes) (λ (n : ℕ). after (notPushed q n) t) _ (λ (n : ℕ). refl) _ _ (push-number due arrival (length bytes)) enters
       where
-        go : (a : Bool) → isInstantOf arrival ≡ a → (b : Bool) → leb (length bytes) width ≡ b → (c : Bool) → isNan due ≡ c → (d : Bool) → isCounterOf (p .nextSeq) ≡ d → (e : Bool) → isFull p ≡ e
-            → Agree width (saidByPush (pushOf width q t due arrival route id duplicated bytes)) (pushPlain width p due arrival route id duplicated bytes)
-        go false ea b eb c ec d ed e ee = rw (push-refused refusedInstant (λ z. omega arith) (push-tests due arrival (length bytes) ∙ (rw ea)), ea) (refuses refusedInstant)
-        go true ea false eb c ec d ed e ee = rw (push-refused refusedLength (λ z. omega arith) (push-tests due arrival (length bytes) ∙ (rw (ea, eb))), ea, eb) (refuses refusedLength)
-        go true ea true eb true ec d ed e ee = rw (push-refused refusedDue (λ z. omega arith) (push-tests due arrival (length bytes) ∙ (rw (ea, eb, ec))), ea, eb, ec) (refuses refusedDue)
-        go true ea true eb false ec false ed e ee = rw (push-refused refusedCounter (λ z. omega arith) (push-tests due arrival (length bytes) ∙ (rw (ea, eb, ec, ed))), ea, eb, ec, ed) (refuses refusedCounter)
-        go true ea true eb false ec true ed true ee = rw (push-refused refusedFull (λ z. omega arith) (push-tests due arrival (length bytes) ∙ (rw (ea, eb, ec, ed, ee))), ea, eb, ec, ed, ee) (refuses refusedFull)
-        go true ea true eb false ec true ed false ee =
-            rw (push-passes (push-tests due arrival (length bytes) ∙ (rw (ea, eb, ec, ed, ee))), ea, eb, ec, ed, ee)
-            (push-enters ee ec (leb-true _ _ eb) (counter-below (p .nextSeq) ed))
+        enters : firstFailing (pushChecks width p due arrival (length bytes)) ≡ 0
+            → Agree width (saidByPush (secondOf width (q .«next_seq») due arrival route duplicated bytes (enterCopyOf width q t due arrival route id bytes)))
+            (secondPlain (p .nextSeq) (withCopy p due arrival route id bytes) due arrival route duplicated bytes)
+        enters z =
+            let all = none-failing (pushChecks width p due arrival (length bytes)) (λ z. omega (arith, z), (λ z. omega (arith, z), (λ z. omega (arith, z), (λ z. omega (arith, z), (λ z. omega (arith, z), tt))))) z in
+            push-enters (not-true (isFull p) (all .1 .1 .1 .1 .0)) (not-true (isNan due) (all .1 .1 .0)) (leb-true _ _ (all .1 .0)) (counter-below (p .nextSeq) (all .1 .1 .1 .0))
 
   -- ---- release
 
@@ -155,69 +149,56 @@ module _ (width : ℕ) (t : Tables) (q : ImpairQueue) (p : Plain) (k : Keeps wid
     in-tree = lt-leb (q .leaves) root (root-below width t q p k c l e)
 
   module _ (now : Float) where
-    release-refused : (n : ℕ) → (n ≡ 0 → ⊥) → releaseRefusal q (memoryOf width (q .cap) t) now ≡ n → releaseOf width q t now ≡ notReleased q (release.Refused n) t
-    unfolding releaseOf
-    release-refused n some e = rw (e, ne-eqb n 0 some)
+    -- the least of all, if it is due
+    root-leaves : (c : Copy) (l : List Copy) → p .held ≡ c ∷ l → leaving now (p .held) ≡ ifDue now (rowOf width t root)
+    root-leaves c l e = ap (leaving now) e ∙ least-due now c l (number-dues width t q p k c l e) ∙ ap (ifDue now) (root-least width t q p k c l e)
 
-    release-empty : releaseRefusal q (memoryOf width (q .cap) t) now ≡ 0 → q .held ≡ 0 → releaseOf width q t now ≡ notReleased q release.NoneDue t
-    unfolding releaseOf
-    release-empty e z = rw (e, z)
+    due-or-not : (c : Copy) (l : List Copy) (e : p .held ≡ c ∷ l) (b : Bool) → le (getD (t .dues) root (whole 0)) now ≡ b
+        → Agree width (saidByRelease width (byDue b)) (handOut p (ifDue now (rowOf width t root)))
+    unfolding handOut leftOf
+    due-or-not c l e true h = rw h (record { says = refl; keeps = release-keeps width t q p k c l e })
+    due-or-not c l e false h = rw h (record { says = refl; keeps = k })
 
-    release-root : releaseRefusal q (memoryOf width (q .cap) t) now ≡ 0 → (c : Copy) (l : List Copy) (e : p .held ≡ c ∷ l)
-        → releaseOf width q t now ≡ byDue (le (getD (t .dues) root (whole 0)) now)
-    unfolding releaseOf dueOf
-    release-root z c l e = rw (z, not-empty c l e, in-tree c l e)
+    -- by what is held
+    hands-out : (h : List Copy) → p .held ≡ h
+        → Agree width (saidByRelease width (cond (eqb (q .held) 0) (notReleased q release.NoneDue t) (dueOf q t now root))) (handOut p (leaving now (p .held)))
+    unfolding handOut leaving dueBy leastIn dueOf
+    hands-out [] e = rw (eq-eqb (q .held) 0 (k .count ∙ ap length e))
+        (subst (λ (h : List Copy). Agree width (said noneDue q t) (handOut p (leaving now h))) (sym e) (record { says = refl; keeps = k }))
+    hands-out (c ∷ l) e = rw (not-empty c l e, in-tree c l e, root-leaves c l e) (due-or-not c l e (le (getD (t .dues) root (whole 0)) now) refl)
 
     -- a release, at any instant
     pub release-agrees : Agree width (saidByRelease width (releaseOf width q t now)) (releasePlain p now)
-    unfolding releasePlain handOut leaving dueBy leastIn firstFailing leftOf
-    release-agrees = go (isInstantOf now) refl (isCounterOf (p .nextSeq)) refl (p .held) refl
-      where
-        -- the least of all, if it is due
-        root-leaves : (c : Copy) (l : List Copy) → p .held ≡ c ∷ l → leaving now (p .held) ≡ ifDue now (rowOf width t root)
-        root-leaves c l e = ap (leaving now) e ∙ least-due now c l (number-dues width t q p k c l e) ∙ ap (ifDue now) (root-least width t q p k c l e)
-
-        due-or-not : (c : Copy) (l : List Copy) (e : p .held ≡ c ∷ l) (b : Bool) → le (getD (t .dues) root (whole 0)) now ≡ b
-            → Agree width (saidByRelease width (byDue b)) (handOut p (ifDue now (rowOf width t root)))
-        due-or-not c l e true h = rw h (record { says = refl; keeps = release-keeps width t q p k c l e })
-        due-or-not c l e false h = rw h (record { says = refl; keeps = k })
-
-        go : (a : Bool) → isInstantOf now ≡ a → (b : Bool) → isCounterOf (p .nextSeq) ≡ b → (h : List Copy) → p .held ≡ h → Agree width (saidByRelease width (releaseOf width q t now)) (releasePlain p now)
-        go false ea b eb h eh = rw (release-refused refusedInstant (λ z. omega arith) (release-tests now ∙ (rw ea)), ea) (refuses refusedInstant)
-        go true ea false eb h eh = rw (release-refused refusedCounter (λ z. omega arith) (release-tests now ∙ (rw (ea, eb))), ea, eb) (refuses refusedCounter)
-        go true ea true eb [] eh = rw (release-empty (release-tests now ∙ (rw (ea, eb))) (k .count ∙ ap length eh), ea, eb)
-            (subst (λ (h : List Copy). Agree width (said noneDue q t) (handOut p (leaving now h))) (sym eh) (record { says = refl; keeps = k }))
-        go true ea true eb (c ∷ l) eh = rw (release-root (release-tests now ∙ (rw (ea, eb))) c l eh, ea, eb)
-            (subst (λ (x : Leaving). Agree width (saidByRelease width (byDue (le (getD (t .dues) root (whole 0)) now))) (handOut p x)) (sym (root-leaves c l eh))
-            (due-or-not c l eh (le (getD (t .dues) root (whole 0)) now) refl))
+    unfolding releaseOf releasePlain
+    release-agrees =
+        by-number (saidByRelease width) (cond (eqb (q .held) 0) (notReleased q release.NoneDue t) (dueOf q t now root)) (λ (n : ℕ). notReleased q (release.Refused n) t) _ (λ (n : ℕ). refl) _ _
+        (release-number now) (λ z. hands-out (p .held) refl)
 
   -- ---- drain
 
   pub drain-agrees : Agree width (saidByDrain t (drainOf q)) (drainPlain p)
-  unfolding drainOf drainPlain firstFailing
-  drain-agrees = go (isCounterOf (p .nextSeq)) refl
-    where
-      go : (b : Bool) → isCounterOf (p .nextSeq) ≡ b → Agree width (saidByDrain t (drainOf q)) (drainPlain p)
-      go false e = rw (state-tests, e) (refuses refusedCounter)
-      go true e = rw (state-tests, e) (record { says = ap drained (k .count); keeps = drained-keeps width t q p k })
+  unfolding drainOf drainPlain
+  drain-agrees =
+      by-number (saidByDrain t) (record { queue = fresh (q .cap) (q .«next_seq»); answer = drain.Drained (q .held) }) (λ (n : ℕ). record { queue = q; answer = drain.Refused n }) _ (λ (n : ℕ). refl) _ _
+      state-number (λ z. record { says = ap drained (k .count); keeps = drained-keeps width t q p k })
 
   -- ---- questions
 
-  due-tests : dueRefusal q (length (t .win)) (length (t .dues)) ≡ firstFailing (queueChecks true true true true (isCounterOf (p .nextSeq)) true true)
+  due-number : dueRefusal q (length (t .win)) (length (t .dues)) ≡ firstFailing (stateChecks p)
   unfolding dueRefusal
-  due-tests = rw (le-leb (q .cap) (length (t .win)) (k .long .win), le-leb (q .cap) (length (t .dues)) (k .long .dues)) state-tests
+  due-number = rw (le-leb (q .cap) (length (t .win)) (k .long .win), le-leb (q .cap) (length (t .dues)) (k .long .dues)) state-number
 
   -- the least due that is held
-  pub due-agrees : saidOfDue (nextDueOf q (t .win) (t .dues)) ≡ nextDuePlain p
-  unfolding nextDueOf nextDuePlain leastDue dueAt firstFailing
-  due-agrees = go (isCounterOf (p .nextSeq)) refl (p .held) refl
-    where
-      go : (b : Bool) → isCounterOf (p .nextSeq) ≡ b → (h : List Copy) → p .held ≡ h → saidOfDue (nextDueOf q (t .win) (t .dues)) ≡ nextDuePlain p
-      go false e h eh = rw (due-tests, e)
-      go true e [] eh =
-          let none : q .held ≡ 0 = k .count ∙ ap length eh in
-          rw (due-tests, e, none, eh)
-      go true e (c ∷ l) eh = rw (due-tests, e, not-empty c l eh, in-tree c l eh, eh) (ap (λ (x : Copy). dueNext (x .due)) (sym (root-least width t q p k c l eh)))
+  tells-least : (h : List Copy) → p .held ≡ h → saidOfDue (cond (eqb (q .held) 0) due.Empty (dueAt q (t .dues) root)) ≡ leastDue (p .held)
+  unfolding leastDue dueAt
+  tells-least [] e = rw (eq-eqb (q .held) 0 (k .count ∙ ap length e), e)
+  tells-least (c ∷ l) e = rw (not-empty c l e, in-tree c l e, e) (ap (λ (x : Copy). dueNext (x .due)) (sym (root-least width t q p k c l e)))
+
+  pub due-agrees : Agree width (said (saidOfDue (nextDueOf q (t .win) (t .dues))) q t) (nextDuePlain p)
+  unfolding nextDueOf nextDuePlain
+  due-agrees =
+      by-number (λ (a : DueAnswer). said (saidOfDue a) q t) (cond (eqb (q .held) 0) due.Empty (dueAt q (t .dues) root)) (λ (n : ℕ). due.Refused n) _ (λ (n : ℕ). refl) _ _ due-number
+      (λ z. record { says = tells-least (p .held) refl; keeps = k })
 
   -- the number of copies that are held
   pub len-agrees : lenOf q ≡ length (p .held)

@@ -19,7 +19,7 @@ unfolding answerTo step
 call-agrees width t q p k (push due arrival route id duplicated bytes) = push-agrees width t q p k due arrival route id duplicated bytes
 call-agrees width t q p k (release now) = release-agrees width t q p k now
 call-agrees width t q p k drain = drain-agrees width t q p k
-call-agrees width t q p k nextDue = record { says = due-agrees width t q p k; keeps = k }
+call-agrees width t q p k nextDue = due-agrees width t q p k
 call-agrees width t q p k len = record { says = ap holds (len-agrees width t q p k); keeps = k }
 call-agrees width t q p k isEmpty = record { says = ap tells (empty-agrees width t q p k); keeps = k }
 call-agrees width t q p k hasMemory = record { says = ap tells (long-memory width (q .cap) t (k .long)); keeps = k }
