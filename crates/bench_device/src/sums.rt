@@ -1,5 +1,4 @@
 // What the calls answer, summed up, so that none of their work can be left out.
-ghost use mathlib.Core.Path.{_≡_};
 ghost use Prim.Native.Nat.{_<_};
 use crate::rounds::Ran;
 use device::ArriveAnswer;

@@ -8,6 +8,7 @@ use lib.Ieee.{Float}
 use lib.Dec.{ltb}
 use lib.ListN.{set}
 use borrow.Author.Tests.{ltb-true, ltb-false, leb-true, not-true, not-false, lt-ltb, le-ltb, le-leb, lt-leb}
+use Rattle.numbers.specs.Limits.{maxCapacity}
 use Rattle.tournament.specs.Paths.{carriedOf, climbedOf}
 use Rattle.tournament.specs.Growth.{Tree, tree, freeDue, freeSeq, grownOf, widenedOf}
 use Rattle.tournament.specs.Calls.{fitsOf, placedOf, enterOf, freedOf, leaveOf}
@@ -31,7 +32,7 @@ module _ (cap n slot : ℕ) (t : Bool) (e : t ≡ fitsOf cap n slot) (y : not t 
   yes : fitsOf cap n slot ≡ true
   yes = sym e ∙ not-false t y
 
-  fitting : (cap ≤ 1048576) × (n ≤ cap) × (slot < cap) × (slot ≤ n)
+  fitting : (cap ≤ maxCapacity) × (n ≤ cap) × (slot < cap) × (slot ≤ n)
   unfolding fitsOf
   fitting =
       let h = and-eq-true-iff _ _ .0 yes in
@@ -39,11 +40,11 @@ module _ (cap n slot : ℕ) (t : Bool) (e : t ≡ fitsOf cap n slot) (y : not t 
       let f = and-eq-true-iff _ _ .0 (g .0) in
       (leb-true _ _ (f .0), leb-true _ _ (f .1), ltb-true _ _ (g .1), leb-true _ _ (h .1))
 
-  pub widen-asks : (cap ≤ 1048576) × (n ≤ cap) × (slot < cap)
+  pub widen-asks : (cap ≤ maxCapacity) × (n ≤ cap) × (slot < cap)
   widen-asks = (fitting .0, fitting .1, fitting .2)
 
   module _ (win : List ℕ) (dues : List Float) (seqs : List ℕ) (m : ℕ) (win′ : List ℕ) (dues′ : List Float) (seqs′ : List ℕ) (eu : tree m win′ dues′ seqs′ ≡ widenedOf cap n slot (tree n win dues seqs)) where
-    pub place-asks : (m ≤ 1048576) × (slot < m)
+    pub place-asks : (m ≤ maxCapacity) × (slot < m)
     place-asks =
         let l = subst (λ (g : Tree). Leafed cap slot g) (sym eu) (widened-leafed cap slot (tree n win dues seqs) (fitting .1) (fitting .2) (fitting .3)) in
         (omega (arith, l .high, fitting .0), l .low)
@@ -62,15 +63,15 @@ module _ (n slot : ℕ) (due : Float) (seq : ℕ) (win : List ℕ) (dues : List 
   unfolding placedOf
   placed-is ew = rw (ew, ed, es)
 
-  pub leave-done : n ≤ 1048576 → slot < n → due ≡ freeDue → seq ≡ freeSeq → win′ ≡ carriedOf dues′ seqs′ n (n + slot) win (n + slot) slot → tree n win′ dues′ seqs′ ≡ leaveOf slot (tree n win dues seqs)
+  pub leave-done : n ≤ maxCapacity → slot < n → due ≡ freeDue → seq ≡ freeSeq → win′ ≡ carriedOf dues′ seqs′ n (n + slot) win (n + slot) slot → tree n win′ dues′ seqs′ ≡ leaveOf slot (tree n win dues seqs)
   unfolding leaveOf freedOf
-  leave-done hn hs e1 e2 ew = rw (le-ltb 1048576 n hn, lt-leb n slot hs, ew, ed, es, e1, e2)
+  leave-done hn hs e1 e2 ew = rw (le-ltb maxCapacity n hn, lt-leb n slot hs, ew, ed, es, e1, e2)
 
 module _ (slot : ℕ) (t : Tree) where
-  pub leave-over : 1048576 < t .leaves → t ≡ leaveOf slot t
+  pub leave-over : maxCapacity < t .leaves → t ≡ leaveOf slot t
   unfolding leaveOf
-  leave-over h = rw (lt-ltb 1048576 (t .leaves) h)
+  leave-over h = rw (lt-ltb maxCapacity (t .leaves) h)
 
-  pub leave-past : t .leaves ≤ 1048576 → t .leaves ≤ slot → t ≡ leaveOf slot t
+  pub leave-past : t .leaves ≤ maxCapacity → t .leaves ≤ slot → t ≡ leaveOf slot t
   unfolding leaveOf
-  leave-past h g = rw (le-ltb 1048576 (t .leaves) h, le-leb (t .leaves) slot g)
+  leave-past h g = rw (le-ltb maxCapacity (t .leaves) h, le-leb (t .leaves) slot g)

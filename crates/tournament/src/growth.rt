@@ -1,7 +1,7 @@
 // How the tree grows with the slots in use, so that those never used cost nothing.
 ghost use mathlib.Core.Path.{_≡_};
 ghost use mathlib.Core.Bool.{false};
-ghost use Prim.Native.Nat.{_-_, _<_, _≤_, min, max};
+ghost use Prim.Native.Nat.{_-_, _<_, _≤_};
 ghost use lib.Ieee.{inf};
 ghost use Rattle.numbers.specs.Limits.{maxCapacity};
 ghost use Rattle.tournament.specs.Growth.{freeDues, freeSeqs, builtOf, tree, grownOf, widenedOf, leavesFor};

@@ -14,7 +14,7 @@ use Rattle.queue.specs.Tables.{Tables, tables, after, Rows, rowsOf}
 use Rattle.queue.specs.declared.answers.ReleaseAnswer.{ReleaseAnswer}
 use Rattle.queue.specs.declared.answers.ReleaseAnswer.the-variants as left
 use Rattle.queue_laws.specs.Lent.{Lent}
-use Rattle.machine.specs.Calls.{Call, arrive, release, rebind, teardown, report, Answer, Binary64Call, Binary64}
+use Rattle.machine.specs.Calls.{Call, arrive, release, rebind, teardown, report, Binary64Call, Binary64}
 use Rattle.device.specs.Arrive.{arriveOf}
 use Rattle.device.specs.Creation.{createOf}
 use Rattle.device.specs.Others.{rebindOf, teardownOf, reportOf}

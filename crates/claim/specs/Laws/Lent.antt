@@ -1,6 +1,6 @@
 -- What a call is lent to be read stays as it was: an arrival reads `free`, and a release what lies beside the keys.
 use mathlib.Core.Path.{_≡_, refl, _∙_}
-use mathlib.Core.Bool.{Bool, true}
+use mathlib.Core.Bool.{Bool}
 use mathlib.Core.List.{List}
 use Prim.Native.Nat.{ℕ}
 use lib.Dec.{eqb, leb}

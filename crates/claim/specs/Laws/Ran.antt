@@ -8,7 +8,7 @@ use Rattle.options.specs.Parse.{parseOf}
 use Rattle.options.specs.declared.config.DirectionConfig.{DirectionConfig}
 use Rattle.options.specs.declared.outcome.Parsed.{Parsed}
 use Rattle.held.specs.Copies.{copy}
-use Rattle.queue.specs.Tables.{Tables, After, after}
+use Rattle.queue.specs.Tables.{Tables, after}
 use Rattle.queue.specs.Refusals.{slotWidth}
 use Rattle.queue.specs.Calls.{payloadOf}
 use Rattle.queue.specs.declared.answers.ReleaseAnswer.{ReleaseAnswer}

@@ -13,7 +13,7 @@ use Rattle.steps.specs.declared.decision.Decision.{Decision}
 use Rattle.steps.specs.declared.decision.Decision.the-variants.{DropRandom, DropGe, DropMtu, DropBlackout, DropKillHold, Enqueue, KillRst}
 use Rattle.held.specs.Order.{beforeOf}
 use Rattle.held.specs.Copies.{Copy, least, without, dueBy, Leaving, noCopy, oneCopy, leastIn, leaving}
-use Rattle.machine.specs.Machine.{Machine, machine, Creation, freshMachine, inRange}
+use Rattle.machine.specs.Machine.{Machine, machine, Creation, freshMachine}
 use Rattle.machine.specs.Calls.{Call, arrive, release, rebind, teardown, report, Answer}
 use Rattle.machine.specs.Steps.{Step, stepTo, machineChecks, unless, Entry, entry, enterCopy, enterCopies, withCopy, entersAs, follow, arriveStep, handOut, releaseStep, rebindStep, teardownStep, reportStep, step, answers}
 use Rattle.machine.specs.Bare.{blank, bareCall, bareCopy, bareAnswer, bareCalls, bareAnswers}
