@@ -13,11 +13,16 @@ use Rattle.queue.specs.declared.answers.DrainAnswer.{DrainAnswer}
 use Rattle.queue.specs.declared.answers.DrainAnswer.the-variants as drain
 use Rattle.admission.specs.declared.admitted.Admitted.{Admitted}
 
-abbrev pub admitted : ImpairQueue → ℕ → ℕ → ℕ → ℕ → ℕ → Admitted
-admitted q i o t r n = record { queue = q; entered = i; overflowed = o; torn = t; resets = r; number = n }
+-- so many copies entered and overflowed
+abbrev pub withCopies : ImpairQueue → ℕ → ℕ → Admitted
+withCopies q entered overflowed = record { queue = q; entered = entered; overflowed = overflowed; torn = 0; resets = 0; number = 0 }
+
+-- state or memory was altered: 26
+abbrev pub outOfKeeping : ImpairQueue → Admitted
+outOfKeeping q = record { queue = q; entered = 0; overflowed = 0; torn = 0; resets = 0; number = refusedKeeping }
 
 abbrev pub untouched : ImpairQueue → Admitted
-untouched q = admitted q 0 0 0 0 0
+untouched q = withCopies q 0 0
 
 -- a packet has one copy, and two if it is duplicated
 abbrev pub askedOf : Bool → ℕ
@@ -28,18 +33,18 @@ unfoldable pub copiesIn : PushAnswer → ℕ
 copiesIn (push.Entered seq copies) = copies
 copiesIn (push.Refused k) = 0
 
--- a copy that did not enter has overflowed; any other refusal than 28 means that state or memory was altered: 26
+-- a copy that did not enter has overflowed; any other refusal than 28 means that state or memory was altered
 unfoldable pub talliedBy : PushAnswer → ImpairQueue → ℕ → Admitted
-talliedBy (push.Entered seq copies) q asked = admitted q copies (asked - copies) 0 0 0
-talliedBy (push.Refused k) q asked = cond (eqb k refusedFull) (admitted q 0 asked 0 0 0) (admitted q 0 0 0 0 refusedKeeping)
+talliedBy (push.Entered seq copies) q asked = withCopies q copies (asked - copies)
+talliedBy (push.Refused k) q asked = cond (eqb k refusedFull) (withCopies q 0 asked) (outOfKeeping q)
 
 abbrev pub talliedOf : Pushed → Bool → Admitted
 talliedOf p duplicated = talliedBy (p .answer) (p .queue) (askedOf duplicated)
 
 -- a reset counts the copies that were held as torn
 unfoldable pub tornBy : DrainAnswer → ImpairQueue → Admitted
-tornBy (drain.Drained n) q = admitted q 0 0 n 1 0
-tornBy (drain.Refused k) q = admitted q 0 0 0 0 refusedKeeping
+tornBy (drain.Drained n) q = record { queue = q; entered = 0; overflowed = 0; torn = n; resets = 1; number = 0 }
+tornBy (drain.Refused k) q = outOfKeeping q
 
 unfoldable pub tornOf : ImpairQueue → Admitted
 tornOf q = tornBy (drainOf q .answer) (drainOf q .queue)

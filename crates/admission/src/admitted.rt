@@ -1,7 +1,7 @@
 // What an arrival did to the queue, counted.
 ghost use mathlib.Core.Path.{_≡_};
 ghost use Prim.Native.Nat.{_≤_};
-ghost use Rattle.admission.specs.Admitted.{admitted, untouched, askedOf, copiesIn, talliedOf, tornOf};
+ghost use Rattle.admission.specs.Admitted.{withCopies, outOfKeeping, untouched, askedOf, copiesIn, talliedOf, tornOf};
 use numbers::REFUSED_FULL;
 use numbers::REFUSED_KEEPING;
 use queue::DrainAnswer;
@@ -21,8 +21,8 @@ pub struct Admitted {
 }
 
 // The queue with so many copies entered and overflowed.
-fn counted(queue: ImpairQueue, entered: u64, overflowed: u64, number: u32) -> Admitted
-    ensures { λ r. ⌜ r ≡ admitted queue entered overflowed 0 0 number ⌝ }
+fn with_copies(queue: ImpairQueue, entered: u64, overflowed: u64) -> Admitted
+    ensures { λ r. ⌜ r ≡ withCopies queue entered overflowed ⌝ }
 {
     Admitted {
         queue,
@@ -30,7 +30,21 @@ fn counted(queue: ImpairQueue, entered: u64, overflowed: u64, number: u32) -> Ad
         overflowed,
         torn: 0,
         resets: 0,
-        number,
+        number: 0,
+    }
+}
+
+// State or memory was altered: 26.
+fn out_of_keeping(queue: ImpairQueue) -> Admitted
+    ensures { λ r. ⌜ r ≡ outOfKeeping queue ⌝ }
+{
+    Admitted {
+        queue,
+        entered: 0,
+        overflowed: 0,
+        torn: 0,
+        resets: 0,
+        number: REFUSED_KEEPING,
     }
 }
 
@@ -38,7 +52,7 @@ fn counted(queue: ImpairQueue, entered: u64, overflowed: u64, number: u32) -> Ad
 pub(crate) fn untouched(queue: ImpairQueue) -> Admitted
     ensures { λ r. ⌜ r ≡ untouched queue ⌝ }
 {
-    counted(queue, 0, 0, 0)
+    with_copies(queue, 0, 0)
 }
 
 // How many copies a packet has.
@@ -58,13 +72,13 @@ pub(crate) fn tallied(pushed: Pushed, duplicated: bool) -> Admitted
     let asked = asked(duplicated);
     match answer {
         PushAnswer::Entered { copies, .. } => {
-            counted(queue, copies as u64, asked - copies as u64, 0)
+            with_copies(queue, copies as u64, asked - copies as u64)
         }
         PushAnswer::Refused(number) => {
             if number == REFUSED_FULL {
-                counted(queue, 0, asked, 0)
+                with_copies(queue, 0, asked)
             } else {
-                counted(queue, 0, 0, REFUSED_KEEPING)
+                out_of_keeping(queue)
             }
         }
     }
@@ -86,6 +100,6 @@ pub(crate) fn torn(queue: ImpairQueue) -> Admitted
             resets: 1,
             number: 0,
         },
-        DrainAnswer::Refused(_) => counted(after, 0, 0, REFUSED_KEEPING),
+        DrainAnswer::Refused(_) => out_of_keeping(after),
     }
 }

@@ -13,13 +13,14 @@ use Rattle.tournament.specs.Calls.{fitsOf, enterOf}
 use Rattle.tournament.specs.Growth.{Tree, tree}
 use Rattle.queue.specs.Tables.{Tables, tables, After, after, Rows, rows, rowsOf, writtenOf, treeOf}
 use Rattle.queue.specs.Refusals.{memoryOf, pushRefusal}
-use Rattle.queue.specs.Calls.{queue, nextSlot, oneMore, notPushed, AfterCopy, enteredOf, enterCopyOf, toldOf, told, againOf, secondOf, enterCopiesOf, pushOf}
+use Rattle.queue.specs.Calls.{nextSlot, oneMore, notPushed, AfterCopy, enteredOf, enterCopyOf, toldOf, told, againOf, secondOf, enterCopiesOf, pushOf}
 use Rattle.queue.specs.declared.queue.ImpairQueue.{ImpairQueue}
 use Rattle.queue.specs.declared.answers.Pushed.{Pushed}
 use Rattle.queue.proofs.RefusalSteps.{roomIn, room-is}
 
-pub one-more-is : (q : ImpairQueue) (leaves opened : ℕ) → opened ≡ max (q .opened) (q .held + 1) → queue (q .cap) (q .held + 1) (q .«next_seq» + 1) leaves opened ≡ oneMore q leaves
-one-more-is q leaves opened e = ap (λ (o : ℕ). queue (q .cap) (q .held + 1) (q .«next_seq» + 1) leaves o) e
+pub one-more-is : (q : ImpairQueue) (leaves opened : ℕ) → opened ≡ max (q .opened) (q .held + 1)
+    → (record { cap = q .cap; held = q .held + 1; «next_seq» = q .«next_seq» + 1; leaves = leaves; opened = opened }) ≡ oneMore q leaves
+one-more-is q leaves opened e = λ i. record { cap = q .cap; held = q .held + 1; «next_seq» = q .«next_seq» + 1; leaves = leaves; opened = e i }
 
 -- ---- one copy
 

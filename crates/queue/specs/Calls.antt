@@ -29,14 +29,11 @@ use Rattle.queue.specs.declared.answers.DueAnswer.the-variants as due
 use Rattle.queue.specs.declared.answers.Drained.{Drained}
 use Rattle.queue.specs.declared.answers.DrainAnswer.the-variants as drain
 
-abbrev pub queue : ℕ → ℕ → ℕ → ℕ → ℕ → ImpairQueue
-queue c h n l o = record { cap = c; held = h; «next_seq» = n; leaves = l; opened = o }
-
 -- ---- creation and drain
 
 -- nothing is held, and no slot was used
 abbrev pub fresh : ℕ → ℕ → ImpairQueue
-fresh cap seq = queue cap 0 seq 0 0
+fresh cap seq = record { cap = cap; held = 0; «next_seq» = seq; leaves = 0; opened = 0 }
 
 -- an empty queue of capacity 1
 abbrev pub smallestQueue : ImpairQueue
@@ -67,7 +64,7 @@ nextSlot q free = cond (eqb (q .held) (q .opened)) (q .opened) (getD free (q .op
 
 -- one copy more, in a tournament of so many leaves
 abbrev pub oneMore : ImpairQueue → ℕ → ImpairQueue
-oneMore q leaves = queue (q .cap) (q .held + 1) (q .«next_seq» + 1) leaves (max (q .opened) (q .held + 1))
+oneMore q leaves = record { cap = q .cap; held = q .held + 1; «next_seq» = q .«next_seq» + 1; leaves = leaves; opened = max (q .opened) (q .held + 1) }
 
 abbrev pub notPushed : ImpairQueue → ℕ → Pushed
 notPushed q k = record { queue = q; answer = push.Refused k }
@@ -131,7 +128,7 @@ queuedOf dues seqs arrivals routes ids lengths slot =
 
 -- one copy less
 abbrev pub oneLess : ImpairQueue → ImpairQueue
-oneLess q = queue (q .cap) (q .held - 1) (q .«next_seq») (q .leaves) (q .opened)
+oneLess q = record { cap = q .cap; held = q .held - 1; «next_seq» = q .«next_seq»; leaves = q .leaves; opened = q .opened }
 
 abbrev pub notReleased : ImpairQueue → ReleaseAnswer → Tables → After Released
 notReleased q a t = after (record { queue = q; answer = a }) t

@@ -30,7 +30,7 @@ use Rattle.queue_laws.specs.Laws.Keeps.{Keeps}
 use Rattle.queue_laws.specs.Replies.{saidOfPush, saidByPush}
 use Rattle.machine.specs.Machine.{Machine}
 use Rattle.machine.specs.Steps.{Entry, entry, withEngine, withCopy, enterCopy, enterCopies}
-use Rattle.admission.specs.Admitted.{admitted, askedOf, talliedBy}
+use Rattle.admission.specs.Admitted.{withCopies, askedOf, talliedBy}
 use Rattle.admission.specs.Follow.{copiesOf}
 use Rattle.admission.specs.declared.admitted.Admitted.{Admitted}
 use Rattle.claim.specs.Laws.Matches.{AllShort}
@@ -61,7 +61,7 @@ record Taking (m : Machine) (n : Entry) : Type 0 where
   short : AllShort (n .then .held)
 
 -- what was admitted, where the queue keeps the machine's list
-enters : (m : Machine) (f : After Admitted) (q : ImpairQueue) (n : Entry) → f .gives ≡ admitted q (n .entered) (n .overflowed) 0 0 0 → Keeps slotWidth (f .memory) q (queueOf (n .then)) → Taking m n
+enters : (m : Machine) (f : After Admitted) (q : ImpairQueue) (n : Entry) → f .gives ≡ withCopies q (n .entered) (n .overflowed) → Keeps slotWidth (f .memory) q (queueOf (n .then)) → Taking m n
     → Entering m f n
 enters m f q n e keeps h =
     record {
@@ -80,12 +80,12 @@ enters m f q n e keeps h =
 
 -- ---- what a push said, counted
 
-some-counted : (a : PushAnswer) (q : ImpairQueue) (seq copies asked : ℕ) → saidOfPush a ≡ entered seq copies → talliedBy a q asked ≡ admitted q copies (asked - copies) 0 0 0
+some-counted : (a : PushAnswer) (q : ImpairQueue) (seq copies asked : ℕ) → saidOfPush a ≡ entered seq copies → talliedBy a q asked ≡ withCopies q copies (asked - copies)
 unfolding talliedBy
-some-counted (push.Entered first n) q seq copies asked says = let same : n ≡ copies = cc in ap (λ (k : ℕ). admitted q k (asked - k) 0 0 0) same
+some-counted (push.Entered first n) q seq copies asked says = let same : n ≡ copies = cc in ap (λ (k : ℕ). withCopies q k (asked - k)) same
 some-counted (push.Refused k) q seq copies asked says = let z : _≡_ {A = ℕ} 0 1 = cc in absurd (omega arith)
 
-none-counted : (a : PushAnswer) (q : ImpairQueue) (asked : ℕ) → saidOfPush a ≡ refused refusedFull → talliedBy a q asked ≡ admitted q 0 asked 0 0 0
+none-counted : (a : PushAnswer) (q : ImpairQueue) (asked : ℕ) → saidOfPush a ≡ refused refusedFull → talliedBy a q asked ≡ withCopies q 0 asked
 unfolding talliedBy
 none-counted (push.Entered first n) q asked says = let z : _≡_ {A = ℕ} 0 1 = cc in absurd (omega arith)
 none-counted (push.Refused k) q asked says = let same : k ≡ refusedFull = cc in rw same
@@ -163,7 +163,7 @@ module _ (m : Machine) (q : ImpairQueue) (t : Tables) (keeps : Keeps slotWidth t
 
     -- the copies are counted alike where the push said this, and the machine has these copies
     by-answer : (duplicated : Bool) (r : Reply) (then : Machine) (i o : ℕ)
-        → ((a : PushAnswer) (x : ImpairQueue) → saidOfPush a ≡ r → talliedBy a x (askedOf duplicated) ≡ admitted x i o 0 0 0)
+        → ((a : PushAnswer) (x : ImpairQueue) → saidOfPush a ≡ r → talliedBy a x (askedOf duplicated) ≡ withCopies x i o)
         → both duplicated ≡ entry then i o
         → Agree slotWidth (saidByPush (pushed duplicated)) (queueStepTo r (queueOf then))
         → Entering m (copiesOf slotWidth q t duplicated due now route bytes) (both duplicated)

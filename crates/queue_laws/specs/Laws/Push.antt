@@ -17,7 +17,7 @@ use Rattle.tournament.specs.Paths.{climbedOf}
 use Rattle.tournament.specs.Growth.{freeDue, freeSeq, freeDues, freeSeqs, builtOf, Tree, grownOf, leavesFor, widenedOf}
 use Rattle.tournament.specs.Calls.{fitsOf, placedOf, enterOf}
 use Rattle.queue.specs.Tables.{Tables, tables, rowsOf, writtenOf, treeOf, joined}
-use Rattle.queue.specs.Calls.{queue, nextSlot, oneMore, AfterCopy, enteredOf, enterCopyOf}
+use Rattle.queue.specs.Calls.{nextSlot, oneMore, AfterCopy, enteredOf, enterCopyOf}
 use Rattle.queue.specs.declared.queue.ImpairQueue.{ImpairQueue}
 use Rattle.queue_laws.specs.Held.{Plain, withCopy}
 use Rattle.queue_laws.specs.Laws.Tree.{eq-cases, lt-cases, due-order, climbed-length}
@@ -197,7 +197,7 @@ module _ (width : ℕ) (t : Tables) (q : ImpairQueue) (p : Plain) (k : Keeps wid
   grow-rows : (s : ℕ) → s < q .leaves → rowOf width t⁺ s ≡ rowOf width t s
   grow-rows s h = rw (kept-due s h, kept-seq s h)
 
-  grow-keeps : Keeps width t⁺ (queue (q .cap) (q .held) (q .«next_seq») n (q .opened)) p
+  grow-keeps : Keeps width t⁺ (record { cap = q .cap; held = q .held; «next_seq» = q .«next_seq»; leaves = n; opened = q .opened }) p
   grow-keeps = record {
     pos = k .pos;
     small = k .small;

@@ -13,8 +13,8 @@ enum-known-answer c = search needs
 enum-told : tie.Need-enum-told
 enum-told c = search needs
 
-counted-requires : tie.Need-counted-requires
-counted-requires c κs = search needs
+out-of-keeping-requires : tie.Need-out-of-keeping-requires
+out-of-keeping-requires c κs = search needs
 
 returns : tie.Need-returns
 unfolding tornOf tornBy
@@ -22,9 +22,9 @@ returns c = rw (← (c .before .before .before .before .drain .ensures), c .befo
 
 returns-2 : tie.Need-returns-2
 unfolding tornOf tornBy
-returns-2 c = rw (← (c .before .before .before .before .drain .ensures), c .before .enum-told .given .1) (c .counted .ensures)
+returns-2 c = rw (← (c .before .before .before .before .drain .ensures), c .before .enum-told .given .1) (c .out-of-keeping .ensures)
 
 pub torn-spec : {M : Type 1} → statement M
 torn-spec =
     tie.close
-    (tie.spec drain-requires enum-known-answer enum-told counted-requires returns returns-2)
+    (tie.spec drain-requires enum-known-answer enum-told out-of-keeping-requires returns returns-2)
