@@ -1,8 +1,7 @@
 -- What the refusals are made of, and what a call that meets none has passed.
-use mathlib.Core.Path.{_≡_}
+use mathlib.Core.Path.{_≡_, refl}
 use mathlib.Core.Bool.{Bool, true}
 use Prim.Native.Nat.{ℕ}
-use native.Mathlib.Omega.{arith}
 use lib.ListN.{length}
 use Rattle.numbers.specs.Laws.Both.{both-true}
 use Rattle.numbers.specs.Laws.Checks.{none-failing}
@@ -37,7 +36,7 @@ pub no-refusal : (v : Device) (memory instant len : Bool) → callRefusal v memo
 unfolding callRefusal inRange
 no-refusal v memory instant len h =
     let checks = deviceChecks memory instant len (inRange (v .engine) (v .accounts) (v .torn) (v .queue .«next_seq»)) in
-    let all = none-failing checks (λ z. omega (arith, z), (λ z. omega (arith, z), (λ z. omega (arith, z), (λ z. omega (arith, z), tt)))) h in
+    let all = none-failing checks refl h in
     let seq = both-true _ (isCounterOf (v .queue .«next_seq»)) (all .1 .1 .1 .0) in
     let torn = both-true _ (isCounterOf (v .torn)) (seq .0) in
     let accounts = both-true (countersPass (v .engine)) (areCounters (accountantCounters (v .accounts))) (torn .0) in

@@ -7,11 +7,10 @@ use lib.Dec.{leb, eqb}
 use lib.Ieee.{Float, isNan, eq, ne}
 use lib.ListN.{length}
 use borrow.Author.Tests.{le-leb, lt-leb, leb-true, leb-false}
-use Rattle.numbers.specs.Checks.{firstFailing}
 use Rattle.numbers.specs.Instant.{isInstantOf}
 use Rattle.numbers.specs.Limits.{maxCapacity, counterLimit, isCounterOf}
 use Rattle.numbers.specs.Laws.Both.{both-true}
-use Rattle.numbers.specs.Laws.Checks.{AllPass, none-failing}
+use Rattle.numbers.specs.Laws.Checks.{none-failing}
 use Rattle.numbers.specs.Laws.Kinds.{nan-differs}
 use Rattle.numbers.specs.Laws.Limits.{counter-below}
 use Rattle.queue.specs.Tables.{Tables}
@@ -22,12 +21,6 @@ use Rattle.queue.specs.declared.queue.ImpairQueue.{ImpairQueue}
 pub eq-self : (x : Float) → eq x x ≡ not (isNan x)
 unfolding ne
 eq-self x = sym (ap not (nan-differs x) ∙ Bool·not-not (eq x x))
-
--- a call that meets no refusal has passed every test
-all-pass : (memory instant len due counter keeping space : Bool) → firstFailing (queueChecks memory instant len due counter keeping space) ≡ 0 → AllPass (queueChecks memory instant len due counter keeping space)
-all-pass memory instant len due counter keeping space h =
-    none-failing (queueChecks memory instant len due counter keeping space)
-    ((λ z. omega (arith, z)), ((λ z. omega (arith, z)), ((λ z. omega (arith, z)), ((λ z. omega (arith, z)), ((λ z. omega (arith, z)), ((λ z. omega (arith, z)), ((λ z. omega (arith, z)), tt))))))) h
 
 -- a state whose numbers can stand together
 pub record Sound (q : ImpairQueue) : Type 0 where
@@ -58,13 +51,13 @@ pub record Passed (width : ℕ) (q : ImpairQueue) (len : ℕ) : Type 0 where
 pub push-passed : (width : ℕ) (q : ImpairQueue) (memory : Bool) (due arrival : Float) (len : ℕ) → pushRefusal width q memory due arrival len ≡ 0 → Passed width q len
 unfolding pushRefusal
 push-passed width q memory due arrival len h =
-    let all = all-pass memory (isInstantOf arrival) (leb len width) (not (isNan due)) (isCounterOf (q .«next_seq»)) (inKeeping q) (not (eqb (q .held) (q .cap))) h in
+    let all = none-failing (queueChecks memory (isInstantOf arrival) (leb len width) (not (isNan due)) (isCounterOf (q .«next_seq»)) (inKeeping q) (not (eqb (q .held) (q .cap)))) refl h in
     record { state = sound q (all .1 .1 .1 .1 .1 .0); seq = counter-below (q .«next_seq») (all .1 .1 .1 .1 .0); fits = leb-true len width (all .1 .1 .0) }
 
 pub release-passed : (q : ImpairQueue) (memory : Bool) (now : Float) → releaseRefusal q memory now ≡ 0 → Sound q
 unfolding releaseRefusal
 release-passed q memory now h =
-    let all = all-pass memory (isInstantOf now) true true (isCounterOf (q .«next_seq»)) (inKeeping q) true h in
+    let all = none-failing (queueChecks memory (isInstantOf now) true true (isCounterOf (q .«next_seq»)) (inKeeping q) true) refl h in
     sound q (all .1 .1 .1 .1 .1 .0)
 
 -- a number is at most the least of two where it is at most each

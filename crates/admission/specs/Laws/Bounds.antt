@@ -8,8 +8,8 @@ use lib.Dec.{T, leb, eqb, eqb→eq}
 use lib.Ieee.{Float}
 use lib.ListN.{length}
 use borrow.Author.Tests.{leb-true}
-use Rattle.numbers.specs.Checks.{firstFailing}
 use Rattle.numbers.specs.Laws.Both.{both-true}
+use Rattle.numbers.specs.Laws.Checks.{none-failing}
 use Rattle.numbers.specs.Laws.NotNan.{cond-when, cond-has}
 use Rattle.numbers.specs.Limits.{maxCapacity, isCounterOf}
 use Rattle.numbers.specs.Refusals.{refusedFull}
@@ -75,12 +75,6 @@ copies-bounds width q t duplicated due now route bytes =
 
 -- ---- a reset
 
-keeping-passes : (counter keeping : Bool) → firstFailing (queueChecks true true true true counter keeping true) ≡ 0 → keeping ≡ true
-unfolding firstFailing
-keeping-passes false keeping h = absurd (omega (arith, h))
-keeping-passes true false h = absurd (omega (arith, h))
-keeping-passes true true h = refl
-
 keeping-within : (q : ImpairQueue) → inKeeping q ≡ true → q .held ≤ maxCapacity
 unfolding inKeeping
 keeping-within q keeping =
@@ -91,7 +85,7 @@ keeping-within q keeping =
 
 held-within : (q : ImpairQueue) → stateRefusal q true ≡ 0 → q .held ≤ maxCapacity
 unfolding stateRefusal
-held-within q h = keeping-within q (keeping-passes (isCounterOf (q .«next_seq»)) (inKeeping q) h)
+held-within q h = keeping-within q (none-failing (queueChecks true true true true (isCounterOf (q .«next_seq»)) (inKeeping q) true) refl h .1 .1 .1 .1 .1 .0)
 
 abbrev TornBounds : Drained → Type 0
 TornBounds o = Bounds (tornBy (o .answer) (o .queue))

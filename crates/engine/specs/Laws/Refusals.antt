@@ -1,7 +1,6 @@
 -- A call that meets no refusal has passed every test.
-use mathlib.Core.Path.{_≡_}
+use mathlib.Core.Path.{_≡_, refl}
 use mathlib.Core.Bool.{Bool, true}
-use native.Mathlib.Omega.{arith}
 use Rattle.numbers.specs.Laws.Both.{both-true}
 use Rattle.numbers.specs.Laws.Checks.{none-failing}
 use Rattle.numbers.specs.Limits.{isCounterOf}
@@ -20,6 +19,6 @@ pub no-refusal : (settings : Bool) (e : ArrivalEngine) (instant short : Bool) �
 unfolding judgedGivenOf
 no-refusal settings e instant short h =
     let checks = engineChecks settings instant short (countersPass e) in
-    let all = none-failing checks (λ z. omega (arith, z), (λ z. omega (arith, z), (λ z. omega (arith, z), (λ z. omega (arith, z), tt)))) h in
+    let all = none-failing checks refl h in
     let counters = both-true (isCounterOf (e .«rebinds_done»)) (areCounters (statsCounters (e .stats))) (all .1 .1 .1 .0) in
     record { settings-pass = all .0; instant-passes = all .1 .0; length-passes = all .1 .1 .0; rebinds = counters .0; stats = counters .1 }

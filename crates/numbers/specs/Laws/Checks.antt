@@ -1,29 +1,34 @@
 -- Where no test fails all pass, and the other way round; and what every failing test's number has, the first one's has.
 use mathlib.Core.Path.{_≡_, refl}
 use mathlib.Core.Logic.{_≢_}
-use mathlib.Core.Bool.{Bool, true, false, cond}
+use mathlib.Core.Bool.{Bool, true, false, cond, not, _&&_}
 use mathlib.Core.List.{List, [], _∷_}
 use Prim.Native.Nat.{ℕ}
+use lib.Dec.{eqb}
+use borrow.Author.Tests.{eqb-false, not-true}
 use Rattle.numbers.specs.Checks.{Check, firstFailing}
+use Rattle.numbers.specs.Laws.Both.{both-true}
 
 -- each test of a list passes
 abbrev pub AllPass : List Check → Type 0
 AllPass [] = Unit {0}
 AllPass (c ∷ cs) = (c .passes ≡ true) × AllPass cs
 
--- no refusal of a list has the number 0
-abbrev pub AllNumbered : List Check → Type 0
-AllNumbered [] = Unit {0}
-AllNumbered (c ∷ cs) = (c .number ≢ 0) × AllNumbered cs
+-- no test of a list has the number 0, as a test that computes
+abbrev pub areNumbered : List Check → Bool
+areNumbered [] = true
+areNumbered (c ∷ cs) = not (eqb (c .number) 0) && areNumbered cs
 
-pub none-failing : (cs : List Check) → AllNumbered cs → firstFailing cs ≡ 0 → AllPass cs
+pub none-failing : (cs : List Check) → areNumbered cs ≡ true → firstFailing cs ≡ 0 → AllPass cs
 unfolding firstFailing
 none-failing [] n h = tt
-none-failing (c ∷ cs) n h = go (c .passes) refl h (none-failing cs (n .1))
+none-failing (c ∷ cs) n h =
+    let numbered = both-true (not (eqb (c .number) 0)) (areNumbered cs) n in
+    go (c .passes) refl h (eqb-false (c .number) 0 (not-true (eqb (c .number) 0) (numbered .0))) (none-failing cs (numbered .1))
   where
-    go : (b : Bool) → c .passes ≡ b → cond b (firstFailing cs) (c .number) ≡ 0 → (firstFailing cs ≡ 0 → AllPass cs) → AllPass (c ∷ cs)
-    go true p h rest = (p, rest h)
-    go false p h rest = absurd (n .0 h)
+    go : (b : Bool) → c .passes ≡ b → cond b (firstFailing cs) (c .number) ≡ 0 → c .number ≢ 0 → (firstFailing cs ≡ 0 → AllPass cs) → AllPass (c ∷ cs)
+    go true p h some rest = (p, rest h)
+    go false p h some rest = absurd (some h)
 
 pub all-passing : (cs : List Check) → AllPass cs → firstFailing cs ≡ 0
 unfolding firstFailing

@@ -128,7 +128,7 @@ module _ (width : ℕ) (t : Tables) (q : ImpairQueue) (p : Plain) (k : Keeps wid
             → Agree width (saidByPush (secondOf width (q .«next_seq») due arrival route duplicated bytes (enterCopyOf width q t due arrival route id bytes)))
             (secondPlain (p .nextSeq) (withCopy p due arrival route id bytes) due arrival route duplicated bytes)
         enters z =
-            let all = none-failing (pushChecks width p due arrival (length bytes)) (λ z. omega (arith, z), (λ z. omega (arith, z), (λ z. omega (arith, z), (λ z. omega (arith, z), (λ z. omega (arith, z), tt))))) z in
+            let all = none-failing (pushChecks width p due arrival (length bytes)) refl z in
             push-enters (not-true (isFull p) (all .1 .1 .1 .1 .0)) (not-true (isNan due) (all .1 .1 .0)) (leb-true _ _ (all .1 .0)) (counter-below (p .nextSeq) (all .1 .1 .1 .0))
 
   -- ---- release
