@@ -4,13 +4,12 @@ ghost use mathlib.Core.Bool.{true};
 ghost use Rattle.numbers.specs.Limits.{isLengthOf};
 ghost use Rattle.accounts.specs.Counters.{areCounters, statsCounters};
 ghost use Rattle.engine.specs.Decide.{decidePassedOf};
-ghost use Rattle.engine.specs.Calls.{decideGivenOf, decideOf, decideUncheckedOf};
+ghost use Rattle.engine.specs.Calls.{decideOf, decideUncheckedOf};
 use crate::answers::Arrived;
 use crate::answers::DecideAnswer;
 use crate::answers::Decided;
 use crate::counts::counted;
 use crate::engine::ArrivalEngine;
-use crate::refusal::passes;
 use crate::windows::gate_at;
 use steps::ArrivalState;
 
@@ -48,15 +47,11 @@ impl ArrivalEngine {
         }
     }
 
-    // An arrival at an engine whose settings pass 29 or not.
-    fn decide_given(mut self, settings: bool, now_ms: f64, len: usize) -> Decided
-        ensures { λ r. ⌜ r ≡ decideGivenOf settings self «now_ms» len ⌝ }
+    // Drops the packet, enqueues it or resets its connection, or refuses by 21, 22 or 25, for an engine whose settings were judged when it was made.
+    pub fn decide_unchecked(mut self, now_ms: f64, len: usize) -> Decided
+        ensures { λ r. ⌜ r ≡ decideUncheckedOf self «now_ms» len ⌝ }
     {
-        let k = self.judged_given(
-            settings,
-            numbers::is_instant(now_ms),
-            numbers::is_length(len),
-        );
+        let k = self.judged_given(true, numbers::is_instant(now_ms), numbers::is_length(len));
         if k != 0 {
             return Decided {
                 engine: self,
@@ -72,18 +67,23 @@ impl ArrivalEngine {
         }
     }
 
-    // Drops the packet, enqueues it or resets its connection, or refuses by 29, 21, 22 or 25.
+    // The same with the settings judged by 29 first.
     pub fn decide(mut self, now_ms: f64, len: usize) -> Decided
         ensures { λ r. ⌜ r ≡ decideOf self «now_ms» len ⌝ }
     {
-        let cfg = self.cfg;
-        self.decide_given(passes(cfg), now_ms, len)
-    }
-
-    // The same without 29, for an engine whose settings were judged when it was made.
-    pub fn decide_unchecked(mut self, now_ms: f64, len: usize) -> Decided
-        ensures { λ r. ⌜ r ≡ decideUncheckedOf self «now_ms» len ⌝ }
-    {
-        self.decide_given(true, now_ms, len)
+        let k = self.judged(numbers::is_instant(now_ms), numbers::is_length(len));
+        if k != 0 {
+            return Decided {
+                engine: self,
+                answer: DecideAnswer::Refused(k),
+            };
+        }
+        let arrived = self.decide_passed(now_ms, len);
+        let engine = arrived.engine;
+        let decision = arrived.decision;
+        Decided {
+            engine,
+            answer: DecideAnswer::Decided(decision),
+        }
     }
 }

@@ -30,7 +30,7 @@ fn refusal(settings: bool, instant: bool, short: bool, counters: bool) -> u32
 }
 
 // Whether refusal 29 lets the settings through. The parts are put together here, since a call of is_settings would copy the whole record each time.
-pub(crate) fn passes(cfg: DirectionConfig) -> bool
+fn passes(cfg: DirectionConfig) -> bool
     ensures { λ r. ⌜ r ≡ isSettingsOf cfg ⌝ }
 {
     judgement::are_scalars(judgement::scalars_of(cfg))

@@ -1,16 +1,26 @@
--- The settings by their contract, the rest by the call inside.
+-- Each return by its step. What is not refused has passed what the steps inside ask.
+use Rattle.engine.proofs.DecideSteps.{decide-refused, decide-asks, decide-done}
 use borrow.Author.Needs.{needs}
 use Rattle.engine.proofs.engine.ArrivalEngine.decide.Statement.{statement}
 use Rattle.engine.proofs.engine.ArrivalEngine.decide.Tie as tie
 
-passes-requires : tie.Need-passes-requires
-passes-requires c κs = search needs
+is-instant-requires : tie.Need-is-instant-requires
+is-instant-requires c κs = search needs
 
-decide-given-requires : tie.Need-decide-given-requires
-decide-given-requires c κs = search needs
+is-length-requires : tie.Need-is-length-requires
+is-length-requires c κs = search needs
+
+judged-requires : tie.Need-judged-requires
+judged-requires c κs = search needs
 
 returns : tie.Need-returns
-returns c = rw (c .decide-given .ensures, c .before .passes .ensures)
+returns c = decide-refused _ (c .before .before .before .before .args .self) _ _ _ _ _ (c .before .before .before .is-instant .ensures) (c .before .before .is-length .ensures) (c .before .judged .ensures) (c .if1 .taken)
+
+decide-passed-requires : tie.Need-decide-passed-requires
+decide-passed-requires c κs = decide-asks _ (c .before .before .before .before .args .self) _ _ _ _ _ (c .before .before .before .is-instant .ensures) (c .before .before .is-length .ensures) (c .before .judged .ensures) (c .if1 .left)
+
+returns-2 : tie.Need-returns-2
+returns-2 c = decide-done _ (c .before .before .before .before .before .before .args .self) _ _ _ _ _ (c .before .before .before .before .before .is-instant .ensures) (c .before .before .before .before .is-length .ensures) (c .before .before .before .judged .ensures) (c .before .before .if1 .left) _ (c .before .decide-passed .ensures)
 
 pub decide-spec : {M : Type 1} → statement M
-decide-spec = tie.close (tie.spec passes-requires decide-given-requires returns)
+decide-spec = tie.close (tie.spec is-instant-requires is-length-requires judged-requires returns decide-passed-requires returns-2)
