@@ -1,5 +1,6 @@
 // The line `a NOW LEN ROUTE FILL`: an arrival, whose bytes are made from FILL.
 use crate::calls::Packet;
+use crate::device_words;
 use crate::memory::Buffer;
 use crate::memory::Floats;
 use crate::memory::Longs;

@@ -1,4 +1,5 @@
 // The line `create DIRECTION SALT CAPACITY`: a new device of the settings that the last option text has for the direction.
+use crate::device_words;
 use crate::state::State;
 use device::Device;
 use options::DirectionConfig;

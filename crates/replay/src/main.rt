@@ -2,12 +2,14 @@
 mod arrive_line;
 mod calls;
 mod create_line;
+mod device_words;
 mod input;
 mod lent;
 mod memory;
 mod options_line;
 mod other_lines;
 mod release_line;
+mod report_words;
 mod requests;
 mod state;
 mod words;

@@ -1,4 +1,6 @@
 // The lines `b NOW`, `t` and `p`: calls on a device for which no memory is lent.
+use crate::device_words;
+use crate::report_words;
 use crate::state::State;
 
 pub fn rebind(out: &mut [u8], mut s: State, now_ms: f64) -> State {
@@ -23,6 +25,6 @@ pub fn teardown(out: &mut [u8], mut s: State) -> State {
 
 pub fn report(out: &mut [u8], mut s: State) -> State {
     let device = s.device;
-    s.at = device_words::reported(out, s.at, device.report());
+    s.at = report_words::reported(out, s.at, device.report());
     s
 }

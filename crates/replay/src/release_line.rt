@@ -1,4 +1,5 @@
 // The line `r NOW`: the least copy that is due leaves.
+use crate::device_words;
 use crate::memory::Buffer;
 use crate::memory::Floats;
 use crate::memory::Longs;

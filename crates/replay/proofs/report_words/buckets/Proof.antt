@@ -3,8 +3,8 @@ use borrow.Author.Needs.{needs}
 use lib.ListN.{length}
 use mathlib.Core.Path.{_≡_}
 use Prim.Native.Nat.{_≤_, _-_}
-use Rattle.device_words.proofs.report.buckets.Statement.{statement}
-use Rattle.device_words.proofs.report.buckets.Tie as tie
+use Rattle.replay.proofs.report_words.buckets.Statement.{statement}
+use Rattle.replay.proofs.report_words.buckets.Tie as tie
 
 abbrev Inv-loop : tie.InvT-loop
 Inv-loop out₀ at hist end₀ i₀ out end i = (i ≤ 12) × (length out ≡ length out₀)

@@ -1,13 +1,10 @@
-// The device's answers as words, for the programs. `out` and `at` are those of output::collected.
-mod report;
-
+// The device's answers as words. `out` and `at` are those of output::collected.
 use device::ArriveAnswer;
 use device::CreateAnswer;
 use device::RebindAnswer;
 use device::TeardownAnswer;
 use output::collected;
 use queue::ReleaseAnswer;
-pub use report::reported;
 use script::answers;
 use steps::Decision;
 
