@@ -1,5 +1,5 @@
 // Answers of replay, and what the program summary must show of them.
-//   summaries script              prints a script of calls on three devices: one that nothing comes to, one with every kind of drop, one with all else
+//   summaries script              prints a script of scenarios and of calls on three devices: one that nothing comes to, one with every kind of drop, one with all else
 //   summaries edges               prints answer lines around the edges
 //   summaries make SEED COUNT     prints COUNT answer lines that are drawn from SEED
 //   summaries answer REFERENCE    reads answer lines and prints what must be shown; REFERENCE is docs/REFERENCE.md, whose table says why a number is refused

@@ -14,16 +14,29 @@ const DROPS: &str = "--mode=tcp --seed=3 --c2s-loss=0.1 --c2s-ge=0.2:0.3:0.9 --c
      --c2s-delay-ms=10 --c2s-blackout=200:240 --c2s-kill=300:340:hold --c2s-kill=388:390:rst";
 const OTHERS: &str = "--seed=4 --c2s-jitter-ms=3000 --c2s-duplicate=0.5 --c2s-reorder=0.3 --c2s-reorder-delay-ms=4000.5 --c2s-nat-change-every-ms=40";
 
+// Numbers at the ends of their ranges and of fifteen digits.
+const LONG: &str = "--seed=18446744073709551615 --duration-ms=9007199254740992 --verbose --queue-cap=1 --c2s-loss=.123456789012345 \
+     --c2s-ge=.000000000000001:1:0.50 --c2s-delay-ms=999999999999999 --c2s-jitter-ms=123456789.012345 --s2c-delay-ms=99999999999999.9 \
+     --s2c-jitter-ms=0.00000000000001 --s2c-reorder=1 --s2c-reorder-delay-ms=+5. --s2c-duplicate=0.30 --s2c-rate-bps=1 --s2c-mtu=9007199254740992 \
+     --s2c-blackout=0:1 --s2c-blackout=9007199254740991:9007199254740992 --s2c-nat-change-every-ms=1";
+
 pub fn script(out: &mut impl Write) -> io::Result<()> {
-    writeln!(out, "options \ncreate c2s 0 1\np")?;
-    device(out, DROPS, 8, 40)?;
-    device(out, OTHERS, 1024, 8000)
+    options(out, "")?;
+    writeln!(out, "create c2s 0 1\np")?;
+    options(out, LONG)?;
+    options(out, DROPS)?;
+    device(out, 8, 40)?;
+    options(out, OTHERS)?;
+    device(out, 1024, 8000)
+}
+
+fn options(out: &mut impl Write, arguments: &str) -> io::Result<()> {
+    let text: String = arguments.split_whitespace().map(|argument| format!("{argument}\0")).collect();
+    writeln!(out, "options {}", hex(&text))
 }
 
 // A hundred packets, one every 4 ms, and a release after each second one; then a release every `pause` ms, and a teardown of what is left.
-fn device(out: &mut impl Write, arguments: &str, capacity: usize, pause: u64) -> io::Result<()> {
-    let text: String = arguments.split_whitespace().map(|argument| format!("{argument}\0")).collect();
-    writeln!(out, "options {}", hex(&text))?;
+fn device(out: &mut impl Write, capacity: usize, pause: u64) -> io::Result<()> {
     writeln!(out, "create c2s 1 {capacity}")?;
     for i in 0..100u64 {
         let now = bits((i * 4) as f64);
