@@ -1,6 +1,11 @@
 // What a report says and what follows from it, by a letter for each number.
 use crate::bars;
+use crate::report_line::BUCKETS;
+use crate::report_line::HELD;
+use crate::report_line::LATENCIES;
 use crate::report_line::NOT_A_NUMBER;
+use crate::report_line::TIMES;
+use crate::report_line::TORN;
 use crate::report_line::WORDS;
 
 // Whether what came, with the duplicates, is what became of it.
@@ -8,8 +13,7 @@ pub fn comes_out(numbers: [u64; WORDS]) -> bool {
     count_of(numbers, b'S') == count_of(numbers, b'T')
 }
 
-// The letters of `said`; then R for all packets dropped, and S and T for the two sides of the count: what came, and what became of it; and U for the
-// scale of the bars.
+// The letters of `said`; R for all packets dropped, S and T for the two sides of the count, what came and what became of it, and U for the scale of the bars.
 pub fn count_of(numbers: [u64; WORDS], letter: u8) -> u64 {
     match letter {
         b'R' => sum(numbers, b"EFGH"),
@@ -32,8 +36,8 @@ fn sum(numbers: [u64; WORDS], letters: &[u8]) -> u64 {
 fn said(numbers: [u64; WORDS], letter: u8) -> u64 {
     match letter {
         b'A'..=b'O' => numbers[(letter - b'A') as usize],
-        b'P' => numbers[31],
-        b'Q' => numbers[33],
+        b'P' => numbers[HELD],
+        b'Q' => numbers[TORN],
         _ => 0,
     }
 }
@@ -41,8 +45,8 @@ fn said(numbers: [u64; WORDS], letter: u8) -> u64 {
 // The bits of the latencies' sum, minimum and maximum, by the letters A to C, and of their mean, D.
 pub fn time_of(numbers: [u64; WORDS], letter: u8) -> u64 {
     match letter {
-        b'A'..=b'C' => numbers[(letter - b'A') as usize + 27],
-        _ => mean(numbers[27], numbers[14]),
+        b'A'..=b'C' => numbers[TIMES + (letter - b'A') as usize],
+        _ => mean(numbers[TIMES], numbers[LATENCIES]),
     }
 }
 
@@ -61,7 +65,7 @@ fn bits_of(x: f64) -> u64 {
 // The packets of a bucket, by the letters A to L.
 pub fn bucket_of(numbers: [u64; WORDS], letter: u8) -> u64 {
     match letter {
-        b'A'..=b'L' => numbers[(letter - b'A') as usize + 15],
+        b'A'..=b'L' => numbers[BUCKETS + (letter - b'A') as usize],
         _ => 0,
     }
 }
@@ -69,7 +73,7 @@ pub fn bucket_of(numbers: [u64; WORDS], letter: u8) -> u64 {
 // The packets of the fullest bucket.
 pub fn fullest(numbers: [u64; WORDS]) -> u64 {
     let mut most = 0;
-    for i in 15..27 {
+    for i in BUCKETS..TIMES {
         if numbers[i] > most {
             most = numbers[i];
         }

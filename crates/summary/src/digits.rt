@@ -13,11 +13,11 @@ pub fn digits_of(bits: u64) -> Digits {
     let fraction = bits % FRACTIONS;
     let exponent = bits / FRACTIONS % 2048;
     if exponent == 0 {
-        halved(whole(fraction), 1074)
+        scaled(whole(fraction), 1074, true)
     } else if exponent < 1075 {
-        halved(whole(fraction + FRACTIONS), 1075 - exponent)
+        scaled(whole(fraction + FRACTIONS), 1075 - exponent, true)
     } else {
-        doubled(whole(fraction + FRACTIONS), exponent - 1075)
+        scaled(whole(fraction + FRACTIONS), exponent - 1075, false)
     }
 }
 
@@ -32,13 +32,21 @@ fn whole(n: u64) -> Digits {
     digits
 }
 
-// The digits of the number doubled this many times.
-fn doubled(digits: Digits, times: u64) -> Digits {
+// The digits of the number, halved or doubled this many times.
+fn scaled(digits: Digits, times: u64, halving: bool) -> Digits {
     let mut now = digits;
     for _ in 0..times {
-        double(&mut now);
+        scale(&mut now, halving);
     }
     now
+}
+
+fn scale(digits: &mut Digits, halving: bool) {
+    if halving {
+        halve(digits)
+    } else {
+        double(digits)
+    }
 }
 
 fn double(digits: &mut Digits) {
@@ -48,15 +56,6 @@ fn double(digits: &mut Digits) {
         carried = sum / 10;
         digits[LENGTH - 1 - i] = sum % 10;
     }
-}
-
-// The digits of the number halved this many times.
-fn halved(digits: Digits, times: u64) -> Digits {
-    let mut now = digits;
-    for _ in 0..times {
-        halve(&mut now);
-    }
-    now
 }
 
 fn halve(digits: &mut Digits) {

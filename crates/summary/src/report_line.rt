@@ -5,6 +5,17 @@ use values::Whole;
 // How many words stand behind the first.
 pub const WORDS: usize = 34;
 
+// Where the number of latencies stands among them, the first of the twelve buckets, the first of the three floats, and the numbers of copies held and torn.
+pub const LATENCIES: usize = 14;
+
+pub const BUCKETS: usize = 15;
+
+pub const TIMES: usize = 27;
+
+pub const HELD: usize = 31;
+
+pub const TORN: usize = 33;
+
 // The bits that stand for every NaN.
 pub const NOT_A_NUMBER: u64 = 0x7ff8_0000_0000_0000;
 
