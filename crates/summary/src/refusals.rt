@@ -37,7 +37,7 @@ fn reason(out: &mut [u8], at: usize, refusal: &[u8]) -> usize {
 7 a whole number is not digits, or is 2^64 or more
 8 a whole number is above 9007199254740992
 9 queue-cap, rate-bps, mtu or nat-change-every-ms is 0
-10 a decimal is not 1 to 15 digits with at most one point; a blank, NaN, an exponent or a minus sign is not taken
+10 a decimal is not 1 to 15 digits with at most one point; an empty value, NaN, an exponent or a minus sign is not taken
 11 a probability is above 1
 12 ge has not three parts, P:R:H
 13 P or R of ge is 0
