@@ -7,6 +7,7 @@
 mod floats;
 mod instants;
 mod print;
+mod script;
 mod split_mix;
 mod stats;
 mod streams;

@@ -3,8 +3,8 @@
 use crate::floats::FLOATS;
 use crate::instants::bits;
 use crate::print::{count, float};
+use crate::script::line_of;
 use crate::split_mix::SplitMix;
-use crate::summary_scenario::hex;
 use std::io::{self, Write};
 
 const MOST: u64 = (1 << 60) - 1;
@@ -32,11 +32,11 @@ pub fn script(out: &mut impl Write) -> io::Result<()> {
 
 fn options(out: &mut impl Write, arguments: &str) -> io::Result<()> {
     let text: String = arguments.split_whitespace().map(|argument| format!("{argument}\0")).collect();
-    writeln!(out, "options {}", hex(&text))
+    writeln!(out, "{}", line_of(text.as_bytes()))
 }
 
-// A hundred packets, one every 4 ms, and a release after each second one; then a release every `pause` ms, and a teardown of what is left.
-fn device(out: &mut impl Write, capacity: usize, pause: u64) -> io::Result<()> {
+// A hundred packets, one every 4 ms, and a release after each second one; then sixty releases within `span` ms, and a teardown of what is left.
+fn device(out: &mut impl Write, capacity: usize, span: u64) -> io::Result<()> {
     writeln!(out, "create c2s 1 {capacity}")?;
     for i in 0..100u64 {
         let now = bits((i * 4) as f64);
@@ -46,7 +46,7 @@ fn device(out: &mut impl Write, capacity: usize, pause: u64) -> io::Result<()> {
         }
     }
     for i in 0..60 {
-        writeln!(out, "r {}", bits((400 + i * pause / 60) as f64))?;
+        writeln!(out, "r {}", bits((400 + i * span / 60) as f64))?;
     }
     writeln!(out, "p\nt\np")
 }
@@ -76,7 +76,7 @@ pub fn edges(out: &mut impl Write) -> io::Result<()> {
     }
     let all = report([MOST; 27], [MOST as f64 * 5000.0, f64::NAN, 5000.0], MOST, MOST);
     writeln!(out, "{all}")?;
-    let rising = std::array::from_fn(|i| [0, 1, 39, 40, 41, 79, 80, 81, 1600, 1601, 3999, 4000][i]);
+    let rising = [0, 1, 39, 40, 41, 79, 80, 81, 1600, 1601, 3999, 4000];
     writeln!(out, "{}", report(counted(11562, 11562, rising), [1.0, 0.0, 1.0], 0, 0))?;
     writeln!(out, "{}", report(counted(11562, 11561, rising), [1.0, 0.0, 1.0], 0, 0))?;
     writeln!(out, "{}", report(counted(40, 40, [40; 12]), [1.0, 0.0, 1.0], 0, 0))?;

@@ -1,6 +1,7 @@
 // The settings of a `taken` line as arguments, each on a line of its own.
 
 use crate::instants::float_of;
+use crate::script::line_of;
 
 // A setting's name in the answer, and the key of its option.
 const KEYS: [(&str, &str); 16] = [
@@ -65,9 +66,5 @@ pub fn option_lines(shown: &str) -> String {
         let arguments = scenario.lines().filter_map(|line| line.strip_prefix("  "));
         arguments.map(|argument| format!("{argument}\0")).collect::<String>()
     });
-    texts.map(|text| format!("options {}\n", hex(&text))).collect()
-}
-
-pub fn hex(text: &str) -> String {
-    text.bytes().map(|byte| format!("{byte:02x}")).collect()
+    texts.map(|text| line_of(text.as_bytes()) + "\n").collect()
 }

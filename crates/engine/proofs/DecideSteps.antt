@@ -13,7 +13,6 @@ use Rattle.engine.specs.Laws.Refusals.{no-refusal}
 use Rattle.engine.specs.Refusals.{judgedGivenOf}
 use Rattle.engine.specs.declared.answers.Arrived.{Arrived}
 use Rattle.engine.specs.declared.answers.DecideAnswer.the-variants as answer
-use Rattle.engine.specs.declared.answers.Decided.{Decided}
 use Rattle.engine.specs.declared.engine.ArrivalEngine.{ArrivalEngine}
 
 module _ (settings : Bool) (e : ArrivalEngine) (now : Float) (len : ℕ) (instant short : Bool) (k : ℕ)

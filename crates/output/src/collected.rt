@@ -13,6 +13,12 @@ pub fn text(out: &mut [u8], at: usize, word: &[u8]) -> usize {
     }
 }
 
+// A single byte.
+pub fn byte(out: &mut [u8], at: usize, letter: u8) -> usize {
+    let word = [letter];
+    text(out, at, &word)
+}
+
 // Writes what is collected.
 pub fn flush(out: &[u8], at: usize) {
     if at <= out.len() {

@@ -62,7 +62,7 @@ fn item(out: &mut [u8], at: usize, d: DirectionConfig, letter: u8) -> usize {
         b'B' | b'N' => collected::decimal(out, at, number_of(d, letter)),
         b'G' | b'R' | b'M' => optional(out, at, d, letter),
         b'W' | b'K' => list(out, at, d, letter),
-        _ => byte(out, at, letter),
+        _ => collected::byte(out, at, letter),
     }
 }
 
@@ -104,11 +104,6 @@ fn list(out: &mut [u8], at: usize, d: DirectionConfig, letter: u8) -> usize {
         let kill_list = d.tcp_kills;
         kills(out, at, kill_list, d.tcp_kill_count)
     }
-}
-
-fn byte(out: &mut [u8], at: usize, letter: u8) -> usize {
-    let word = [letter];
-    collected::text(out, at, &word)
 }
 
 fn burst_loss(out: &mut [u8], at: usize, ge: GeOption) -> usize {

@@ -20,12 +20,7 @@ pub fn right(out: &mut [u8], at: usize, columns: usize, word: &[u8]) -> usize {
 pub fn repeated(out: &mut [u8], at: usize, letter: u8, from: usize, to: usize) -> usize {
     let mut end = at;
     for _ in from..to {
-        end = byte(out, end, letter);
+        end = collected::byte(out, end, letter);
     }
     end
-}
-
-pub fn byte(out: &mut [u8], at: usize, letter: u8) -> usize {
-    let word = [letter];
-    collected::text(out, at, &word)
 }

@@ -4,8 +4,8 @@ use crate::aligned;
 // The longest bar.
 const COLUMNS: u64 = 40;
 
-// How many packets one sign of a bar stands for at most, where the fullest bucket has so many.
-pub fn scale(fullest: u64) -> u64 {
+// How many packets a sign of a bar stands for at most, where the fullest bucket has so many.
+pub fn packets_per_sign(fullest: u64) -> u64 {
     share(fullest, COLUMNS)
 }
 
@@ -14,7 +14,13 @@ pub fn show(out: &mut [u8], at: usize, n: u64, fullest: u64) -> usize {
     let end = aligned::count(out, at, n);
     if n > 0 {
         let blanks = aligned::repeated(out, end, b' ', 0, 2);
-        aligned::repeated(out, blanks, b'#', 0, share(n, scale(fullest)) as usize)
+        aligned::repeated(
+            out,
+            blanks,
+            b'#',
+            0,
+            share(n, packets_per_sign(fullest)) as usize,
+        )
     } else {
         end
     }

@@ -13,13 +13,14 @@ pub fn comes_out(numbers: [u64; WORDS]) -> bool {
     count_of(numbers, b'S') == count_of(numbers, b'T')
 }
 
-// The letters of `said`; R for all packets dropped, S and T for the two sides of the count, what came and what became of it, and U for the scale of the bars.
+// The letters of `said`; R for all packets dropped, S and T for the two sides of the count, what came and what became of it, and U for the packets that a sign
+// of a bar stands for.
 pub fn count_of(numbers: [u64; WORDS], letter: u8) -> u64 {
     match letter {
         b'R' => sum(numbers, b"EFGH"),
         b'S' => sum(numbers, b"AJ"),
         b'T' => sum(numbers, b"CEFGHINPQ"),
-        b'U' => bars::scale(fullest(numbers)),
+        b'U' => bars::packets_per_sign(fullest(numbers)),
         _ => said(numbers, letter),
     }
 }

@@ -8,6 +8,7 @@ use output::collected;
 // The columns of a count, and four more for the point and three places behind it.
 const COLUMNS: usize = 16;
 
+// The bit of the sign, and the bits of an infinity; those of a NaN are more.
 const SIGN: u64 = 0x8000_0000_0000_0000;
 
 const INFINITE: u64 = 0x7ff0_0000_0000_0000;
@@ -72,7 +73,7 @@ fn whole_part(out: &mut [u8], at: usize, digits: Digits, count: usize) -> usize 
 fn numerals(out: &mut [u8], at: usize, digits: Digits, from: usize, to: usize) -> usize {
     let mut end = at;
     for i in from..to {
-        end = aligned::byte(out, end, digits::numeral_at(digits, i));
+        end = collected::byte(out, end, digits::numeral_at(digits, i));
     }
     end
 }

@@ -1,11 +1,12 @@
 // The decimal digits of a float, all of them: every float has at most 309 before the point and 1,074 behind it.
-const LENGTH: usize = 1384;
+const LENGTH: usize = 1383;
 
 pub type Digits = [u8; LENGTH];
 
 // How many of them stand before the point.
 pub const BEFORE: usize = 309;
 
+// 2^52, which parts the bits of a float: below it stands the fraction, above it the exponent.
 const FRACTIONS: u64 = 0x0010_0000_0000_0000;
 
 // The digits of the float with these bits, which is neither infinite nor a NaN and has no sign.

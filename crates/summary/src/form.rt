@@ -37,6 +37,6 @@ fn item(out: &mut [u8], at: usize, numbers: [u64; WORDS], mark: u8, letter: u8) 
 fn plain(out: &mut [u8], at: usize, letter: u8) -> usize {
     match letter {
         b'$' | b'%' | b'~' | b'|' => at,
-        _ => aligned::byte(out, at, letter),
+        _ => collected::byte(out, at, letter),
     }
 }

@@ -5,10 +5,10 @@ use Rattle.summary.proofs.digits.has_more.Statement.{statement}
 use Rattle.summary.proofs.digits.has_more.Tie as tie
 
 abbrev Inv-loop : tie.InvT-loop
-Inv-loop place digits more₀ i₀ more i = i ≤ 1384
+Inv-loop place digits more₀ i₀ more i = i ≤ 1383
 
 abbrev μ-loop : tie.MeasureT-loop
-μ-loop place digits more₀ i₀ more i = 1384 - i
+μ-loop place digits more₀ i₀ more i = 1383 - i
 
 loop-holds : tie.Need-loop-holds Inv-loop μ-loop
 loop-holds c = search needs

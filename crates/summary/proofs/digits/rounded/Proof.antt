@@ -5,10 +5,10 @@ use Rattle.summary.proofs.digits.rounded.Statement.{statement}
 use Rattle.summary.proofs.digits.rounded.Tie as tie
 
 abbrev Inv-loop : tie.InvT-loop
-Inv-loop count now₀ carried₀ i₀ now carried i = i ≤ 1384
+Inv-loop count now₀ carried₀ i₀ now carried i = i ≤ 1383
 
 abbrev μ-loop : tie.MeasureT-loop
-μ-loop count now₀ carried₀ i₀ now carried i = 1384 - i
+μ-loop count now₀ carried₀ i₀ now carried i = 1383 - i
 
 rounds-up-requires : tie.Need-rounds-up-requires Inv-loop μ-loop
 rounds-up-requires c κs = search needs

@@ -5,10 +5,10 @@ use Rattle.summary.proofs.digits.used.Statement.{statement}
 use Rattle.summary.proofs.digits.used.Tie as tie
 
 abbrev Inv-loop : tie.InvT-loop
-Inv-loop digits end₀ i₀ end i = (309 ≤ i) × (i ≤ 1384)
+Inv-loop digits end₀ i₀ end i = (309 ≤ i) × (i ≤ 1383)
 
 abbrev μ-loop : tie.MeasureT-loop
-μ-loop digits end₀ i₀ end i = 1384 - i
+μ-loop digits end₀ i₀ end i = 1383 - i
 
 loop-holds : tie.Need-loop-holds Inv-loop μ-loop
 loop-holds c = search needs
