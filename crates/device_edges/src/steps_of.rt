@@ -5,7 +5,6 @@
 // less and Z 0. g says that each copy has 3,000 bytes; what else is altered stands at `altered`. i, j, o, q and u say how many bytes a slot has, as `Host::say`
 // asks. A blank is nothing.
 use crate::host::Host;
-use crate::words;
 
 // Runs the cases of a text. A case begins with its name, which ends in a bar.
 pub fn run(text: &[u8]) {
@@ -27,7 +26,7 @@ fn read(mut host: Host, byte: u8) -> Host {
     if byte == b'|' {
         host.named = true;
     } else {
-        words::byte(byte);
+        output::byte(byte);
     }
     host
 }

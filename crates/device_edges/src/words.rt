@@ -23,12 +23,6 @@ fn numbered(word: &[u8], n: u64) -> u32 {
     0
 }
 
-// A byte of a name.
-pub fn byte(b: u8) {
-    let word = [b];
-    output::text(&word);
-}
-
 pub fn created(answer: CreateAnswer) {
     match answer {
         CreateAnswer::Created => output::text(b"; created"),

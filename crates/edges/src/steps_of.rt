@@ -4,7 +4,6 @@
 use crate::altered;
 use crate::calls;
 use crate::numbers::Numbers;
-use crate::words;
 use engine::ArrivalEngine;
 use options::DirectionConfig;
 
@@ -52,7 +51,7 @@ fn read(mut case: Case, byte: u8) -> Case {
         output::text(b":");
         case.named = true;
     } else {
-        words::byte(byte);
+        output::byte(byte);
     }
     case
 }

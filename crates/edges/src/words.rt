@@ -4,12 +4,6 @@ use engine::BoolAnswer;
 use engine::DecideAnswer;
 use output::collected;
 
-// A byte of a name.
-pub fn byte(b: u8) {
-    let word = [b];
-    output::text(&word);
-}
-
 pub fn outcome(word: &[u8], outcome: Outcome) {
     let mut space = [0u8; 64];
     let out: &mut [u8] = &mut space;

@@ -7,6 +7,12 @@ pub fn text(word: &[u8]) {
     io::write_all(STDOUT_FILENO, word);
 }
 
+// A single byte.
+pub fn byte(letter: u8) {
+    let word = [letter];
+    text(&word);
+}
+
 pub fn end() {
     text(b"\n");
 }
