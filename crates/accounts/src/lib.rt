@@ -1,4 +1,6 @@
 // The accounts of the impaired line: the statistics of stats.rs, and the send accountant of impair.rs.
+#![tactic(auto)]
+
 mod accountant;
 mod answers;
 mod buckets;

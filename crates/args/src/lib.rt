@@ -1,4 +1,6 @@
 // The arguments of an option text: a cursor over them, and scans for the values of a key.
+#![tactic(auto)]
+
 mod cursor;
 mod dashes;
 mod scans;

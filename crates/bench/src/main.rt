@@ -1,4 +1,6 @@
 // The benchmark's loops: without input packets are accounted, and an option text on standard input is read again and again.
+#![tactic(auto)]
+
 mod parses;
 mod print;
 mod sends;

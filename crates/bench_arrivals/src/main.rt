@@ -1,4 +1,6 @@
 // The benchmark's loop of arrivals, at an engine of the settings of the option text on standard input.
+#![tactic(auto)]
+
 mod decides;
 
 use libc::STDIN_FILENO;

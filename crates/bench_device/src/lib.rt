@@ -1,4 +1,6 @@
 // The benchmark's loop of the device, over memory that a driver in Rust lends.
+#![tactic(auto)]
+
 mod rounds;
 mod sums;
 

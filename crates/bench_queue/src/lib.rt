@@ -1,4 +1,6 @@
 // The benchmark's loop of the queue, over memory that a driver in Rust lends.
+#![tactic(auto)]
+
 mod turns;
 
 use queue::ImpairQueue;

@@ -1,4 +1,6 @@
 // The device: one direction of an impaired line, with its engine, its queue and its accounts.
+#![tactic(auto)]
+
 mod answers;
 mod arrive;
 mod creation;

@@ -1,4 +1,6 @@
 // The draws of the impaired line: the generator of rng.rs, and the seed of a direction from impair.rs.
+#![tactic(auto)]
+
 mod rng;
 mod seeds;
 

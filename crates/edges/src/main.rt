@@ -1,4 +1,6 @@
 // Calls of the arrival engine on settings and states that no option text and no arrival makes; the file stdout has what document 01 says of them.
+#![tactic(auto)]
+
 mod altered;
 mod calls;
 mod cases;

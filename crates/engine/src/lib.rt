@@ -1,4 +1,6 @@
 // The arrival engine of impair.rs: what becomes of each packet, bit for bit.
+#![tactic(auto)]
+
 mod answers;
 mod counts;
 mod creation;

@@ -1,4 +1,6 @@
 // The engine's answers as words, for the programs. `out` and `at` are those of output::collected.
+#![tactic(auto)]
+
 pub mod stats;
 
 use accounts::Outcome;

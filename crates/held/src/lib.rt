@@ -1,1 +1,2 @@
 // The plain list of held copies: see specs/Lib.antt.
+#![tactic(auto)]

@@ -1,4 +1,6 @@
 // Refusal 29: which settings of a direction the engine and the device take.
+#![tactic(auto)]
+
 mod direction;
 mod lists;
 mod scalars;

@@ -1,4 +1,6 @@
 // Arithmetic, limits and numbers of refusals that the layers above share.
+#![tactic(auto)]
+
 mod extremes;
 mod instant;
 mod limits;

@@ -1,4 +1,6 @@
 // The option text of config.rs: the settings that it gives, or the number of the refusal.
+#![tactic(auto)]
+
 mod config;
 mod delays;
 mod direction;

@@ -1,4 +1,6 @@
 // Text on standard output: written at once here, or collected first (`collected`).
+#![tactic(auto)]
+
 pub mod collected;
 
 use libc::STDOUT_FILENO;

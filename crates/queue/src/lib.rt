@@ -1,4 +1,6 @@
 // The queue of impair.rs: copies of packets wait in lent memory until they are due, the least (due, seq) first.
+#![tactic(auto)]
+
 mod answers;
 mod creation;
 mod due;

@@ -1,4 +1,6 @@
 // The queue's calls as values, and its answers as words, for the programs.
+#![tactic(auto)]
+
 mod answers;
 mod calls;
 mod lent;

@@ -1,5 +1,7 @@
 // Calls of the queue on memory and states that no earlier call has left; the file stdout has what document 01 says of them, and of calls that
 // are drawn how many had each answer.
+#![tactic(auto)]
+
 mod altered;
 mod case;
 mod chosen;

@@ -1,1 +1,2 @@
 // What is shown of the queue: see specs/Lib.antt.
+#![tactic(auto)]

@@ -1,4 +1,6 @@
 // Reads a script of calls on a queue from standard input and prints an answer line for each of its lines.
+#![tactic(auto)]
+
 mod input;
 mod requests;
 mod words;

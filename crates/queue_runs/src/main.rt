@@ -1,5 +1,7 @@
 // Drives queues by calls that are drawn at random, and compares every answer with that of a plain list. The file stdout has for each capacity how many calls
 // there were, how many of them were answered as entered, released, none due, full and drained, and how many answers were apart.
+#![tactic(auto)]
+
 mod draw;
 mod list;
 mod runs;

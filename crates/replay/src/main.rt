@@ -1,4 +1,6 @@
 // Reads a script of calls on devices from standard input and prints an answer line for each of its lines.
+#![tactic(auto)]
+
 mod arrive_line;
 mod calls;
 mod create_line;

@@ -1,4 +1,6 @@
 // Scripts: lines from standard input, and what the words of a line stand for.
+#![tactic(auto)]
+
 pub mod answers;
 mod cuts;
 pub mod fields;

@@ -1,4 +1,6 @@
 // What the text says of one option: a number, burst loss, or a list of windows or kills.
+#![tactic(auto)]
+
 mod entries;
 mod ge;
 mod kill;

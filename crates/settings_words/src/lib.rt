@@ -1,4 +1,6 @@
 // Settings as words, for the programs. `out` and `at` are those of output::collected.
+#![tactic(auto)]
+
 use numbers::MAX_ENTRIES;
 use options::{
     Config, DirectionConfig, Ge, GeOption, KillStyle, Mode, MtuOption, RateOption, TcpKill, Window,

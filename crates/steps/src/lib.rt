@@ -1,4 +1,6 @@
 // The steps of an arrival, each by itself, and their chain.
+#![tactic(auto)]
+
 mod arrival;
 mod blackouts;
 mod bucket;

@@ -1,4 +1,6 @@
 // Reads the answers of the program replay and shows them for a person: each report, and what was refused.
+#![tactic(auto)]
+
 mod aligned;
 mod bars;
 mod counts;

@@ -1,4 +1,6 @@
 // Tables and the store that a host lends: reads and writes that are safe at every index.
+#![tactic(auto)]
+
 mod get;
 mod set;
 mod slots;

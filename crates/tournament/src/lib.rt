@@ -1,4 +1,6 @@
 // A tournament of the slots that hold copies: the least key (due, seq) stands at the root.
+#![tactic(auto)]
+
 mod calls;
 mod carry;
 mod climb;

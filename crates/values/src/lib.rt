@@ -1,4 +1,6 @@
 // The bytes of an option's value: parts of them, and the numbers that they write.
+#![tactic(auto)]
+
 mod blanks;
 mod bytes;
 mod colons;

@@ -1,4 +1,6 @@
 // Runs vectors from outside and prints what the port makes of them; the file stdout has what is expected.
+#![tactic(auto)]
+
 mod accounts_run;
 mod document;
 mod floats;

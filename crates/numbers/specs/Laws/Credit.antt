@@ -55,7 +55,7 @@ round_credit s a c q k l =
     let h = round-fits binary64 false a c in
     let under = le_trans (plus_number (round_plus binary64 a c)) (plus_number q) (number_fin false 1 (pos debt_power)) k l in
     let clear = finite_below (round_plus binary64 a c) (finite_fin false 1 (pos debt_power)) under in
-    elim s [ false ↦ plus_credit h clear | true ↦ rw (round_neg binary64 a c) (minus_credit h clear under) ]
+    elim s as (λ b. Credit (round binary64 b a c)) [ false ↦ plus_credit h clear | true ↦ rw (round_neg binary64 a c) (minus_credit h clear under) ]
 
 -- ---- refilled
 

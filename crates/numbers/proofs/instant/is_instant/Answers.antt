@@ -6,8 +6,7 @@ use Rattle.numbers.specs.Instant.{last_instant, is_instant_of}
 use Rattle.numbers.specs.Laws.Kinds.{Number, number_inf, number_fin, number_is}
 use Rattle.numbers.specs.Laws.Order.{ltb_is_not_leb, lt_is_not_le}
 use Rattle.numbers.specs.Laws.Sign.{sign_of_bits}
-use Rattle.numbers.proofs.instant.is_instant.Statement.{statement}
-use Rattle.numbers.proofs.instant.is_instant.Tie as tie
+use Rattle.numbers.proofs.instant.is_instant.Goals as goal
 
 -- what is at most anything is a number
 compared : (t y : Float) → le t y ≡ true → Number t
@@ -33,17 +32,14 @@ beyond nan h = refl
 beyond (inf s) h = rw (lt_is_not_le (number_inf s) bound, h) (ap not (sym (or-true s)))
 beyond (fin s m e) h = rw (lt_is_not_le (number_fin s m e) bound, h) (ap not (sym (or-true s)))
 
-float-to-bits-result : tie.Need-float-to-bits-result
+pub float_to_bits-result : goal.float_to_bits-result
 unfolding of_bits
-float-to-bits-result c = rw (number_is (compared c.before.args.t _ c.if1.true)) tt
+float_to_bits-result c = rw (number_is (compared c.args.t _ c.if-t.true)) tt
 
-returns : tie.Need-returns
+pub returns-then-t : goal.returns-then-t
 unfolding of_bits
-returns c = within c.before.args.t (rw c.before.well-formed.0.1 tt) c.if1.true
+returns-then-t c = within c.args.t (rw c.well_formed.0.1 tt) c.if-t.true
 
-returns-2 : tie.Need-returns-2
+pub returns-else-t : goal.returns-else-t
 unfolding of_bits
-returns-2 c = beyond c.before.args.t c.if1.false
-
-pub is-instant-spec : {M : Type 1} → statement M
-is-instant-spec = tie.close (tie.spec float-to-bits-result returns returns-2)
+returns-else-t c = beyond c.args.t c.if-t.false
