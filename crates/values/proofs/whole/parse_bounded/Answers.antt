@@ -1,0 +1,6 @@
+-- A whole number first, then the limit.
+use Rattle.std.proofs.Common.{rules}
+use Rattle.values.proofs.whole.parse_bounded.Goals as goal
+
+pub returns : goal.returns
+returns c = cc
