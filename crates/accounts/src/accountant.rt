@@ -10,7 +10,7 @@ use crate::{counters, joining, latency, stats};
 use numbers::{REFUSED_COUNTER, REFUSED_LENGTH};
 
 // What was sent, and how long it had waited.
-#[derive(Drop)]
+#[derive(Clone, Copy)]
 pub struct SendAccountant {
     pub sent_pkts: u64,
     pub sent_bytes: u64,
@@ -21,7 +21,7 @@ pub struct SendAccountant {
 }
 
 // The accountant after a call, and its answer.
-#[derive(Drop)]
+#[derive(Clone, Copy)]
 pub struct Sent {
     pub accountant: SendAccountant,
     pub answer: Outcome,

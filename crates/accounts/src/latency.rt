@@ -6,7 +6,7 @@ use crate::buckets;
 use crate::buckets::N_BUCKETS;
 
 // How many latencies there were, their sum, minimum and maximum, and their histogram.
-#[derive(Drop)]
+#[derive(Clone, Copy)]
 pub struct LatencyStats {
     pub count: u64,
     pub sum_ms: f64,

@@ -10,7 +10,7 @@ use crate::{counters, latency};
 use numbers::REFUSED_COUNTER;
 
 // What happened in one direction.
-#[derive(Drop)]
+#[derive(Clone, Copy)]
 pub struct DirectionStats {
     pub received_pkts: u64,
     pub received_bytes: u64,
@@ -34,7 +34,7 @@ pub struct DirectionStats {
 }
 
 // The statistics after a call, and its answer.
-#[derive(Drop)]
+#[derive(Clone, Copy)]
 pub struct Updated {
     pub stats: DirectionStats,
     pub answer: Outcome,

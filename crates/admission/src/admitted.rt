@@ -7,7 +7,7 @@ use queue::{DrainAnswer, ImpairQueue, PushAnswer, Pushed};
 
 // The queue after an arrival, and the numbers of copies entered, overflowed and torn, and of resets. `number` is 26 where the queue was found out of
 // keeping, else 0.
-#[derive(Drop)]
+#[derive(Clone, Copy)]
 pub struct Admitted {
     pub queue: ImpairQueue,
     pub entered: u64,

@@ -7,13 +7,13 @@ use numbers::{REFUSED_ARGUMENT, REFUSED_VALUE_LACKING};
 use values::{after, front, is_same, part, up_to};
 
 // A place in the text, where the next argument starts.
-#[derive(Drop)]
+#[derive(Clone, Copy)]
 pub struct Cursor {
     pub at: usize,
 }
 
 // What stands at a cursor: a key and a value are each a place and a length.
-#[derive(Drop)]
+#[derive(Clone, Copy)]
 pub enum Arg {
     End,
     Refused(u32),
@@ -21,20 +21,20 @@ pub enum Arg {
     Pair(usize, usize, usize, usize),
 }
 
-#[derive(Drop)]
+#[derive(Clone, Copy)]
 pub struct Step {
     pub cursor: Cursor,
     pub arg: Arg,
 }
 
 // Where a value stands: its place and its length.
-#[derive(Drop)]
+#[derive(Clone, Copy)]
 pub enum Found {
     At(usize, usize),
     Nothing,
 }
 
-#[derive(Drop)]
+#[derive(Clone, Copy)]
 pub struct Hit {
     pub cursor: Cursor,
     pub found: Found,

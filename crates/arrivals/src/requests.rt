@@ -6,7 +6,7 @@ use values::Whole;
 
 // A call with its numbers: of an option text its length; instants by their bits; of an engine whether it is that of c2s, and the seed. Bad is a line that asks
 // for nothing, and Nothing is no line.
-#[derive(Drop)]
+#[derive(Clone, Copy)]
 pub enum Request {
     Options(usize),
     Engine(bool, u64),

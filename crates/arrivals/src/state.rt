@@ -3,7 +3,7 @@ use engine::ArrivalEngine;
 use options::DirectionConfig;
 
 // How many bytes of answers are collected, as output::collected has it; how long the option text is; and the engine.
-#[derive(Drop)]
+#[derive(Clone, Copy)]
 pub struct State {
     pub at: usize,
     pub length: usize,

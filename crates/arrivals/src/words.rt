@@ -1,7 +1,7 @@
 // The words that a line begins with.
 
 // What the first word of a line asks for.
-#[derive(Drop)]
+#[derive(Clone, Copy)]
 pub enum Call {
     Options,
     Engine,
@@ -13,7 +13,7 @@ pub enum Call {
 }
 
 // What an engine is asked at an instant.
-#[derive(Drop)]
+#[derive(Clone, Copy)]
 pub enum Asked {
     Rebind,
     Rst,

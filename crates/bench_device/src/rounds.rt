@@ -12,7 +12,7 @@ const WIDTH: u32 = 200;
 
 const LENGTH: usize = 200;
 
-#[derive(Drop)]
+#[derive(Clone, Copy)]
 pub(crate) struct Ran {
     pub device: Device,
     pub sum: u64,

@@ -12,7 +12,7 @@ const SOURCES: u64 = 16;
 // A due is up to this many milliseconds ahead.
 const SPREAD_MS: f64 = 1000.0;
 
-#[derive(Drop)]
+#[derive(Clone, Copy)]
 pub(crate) struct Turns {
     pub queue: ImpairQueue,
     pub now_ms: f64,

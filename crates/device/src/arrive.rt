@@ -27,7 +27,7 @@ fn not_arrived(device: Device, number: u32) -> Arrived
 }
 
 // The parts of the engine that an arrival moves, and its decision. The settings stay out, so that their lists are not copied with each arrival.
-#[derive(Drop)]
+#[derive(Clone, Copy)]
 pub(crate) struct Moving {
     pub rng: Rng,
     pub ge_bad: bool,

@@ -4,7 +4,7 @@ use engine::ArrivalEngine;
 use queue::ImpairQueue;
 
 // `torn` counts the copies that resets and teardowns have taken from the queue.
-#[derive(Drop)]
+#[derive(Clone, Copy)]
 pub struct Device {
     pub engine: ArrivalEngine,
     pub queue: ImpairQueue,

@@ -12,7 +12,7 @@ use numbers::REFUSED_KEEPING;
 use queue::{ImpairQueue, Queued, ReleaseAnswer};
 
 // What a release leaves of the queue and the accounts, and its answer. The settings stay out, so that their lists are not copied with each release.
-#[derive(Drop)]
+#[derive(Clone, Copy)]
 pub(crate) struct Sending {
     pub queue: ImpairQueue,
     pub accounts: SendAccountant,

@@ -5,7 +5,7 @@ const TOO_MANY: u64 = 0x1000_0000_0000_0000;
 
 // Of a creation the settings, by their letter, the capacity, and which table is short; of a call the instant, the length of the packet, and whether the store is
 // lent without its last byte; and the number that an altered counter gets.
-#[derive(Drop)]
+#[derive(Clone, Copy)]
 pub struct Asked {
     pub settings: u8,
     pub cap: usize,

@@ -7,7 +7,7 @@ use crate::words;
 use device::Device;
 
 // The device and the memory after a call, and the number of the refusal or 0.
-#[derive(Drop)]
+#[derive(Clone, Copy)]
 pub struct Called {
     pub memory: Memory,
     pub device: Device,

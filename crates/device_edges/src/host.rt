@@ -7,7 +7,7 @@ use device::Device;
 use numbers::REFUSED_KEEPING;
 
 // `kept` says whether every refused call so far has kept the device as it was, and `named` whether the case has its name.
-#[derive(Drop)]
+#[derive(Clone, Copy)]
 pub struct Host {
     pub memory: Memory,
     pub device: Device,

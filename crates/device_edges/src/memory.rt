@@ -1,7 +1,7 @@
 // The memory that a host lends.
 
 // Room for two copies.
-#[derive(Drop)]
+#[derive(Clone, Copy)]
 pub struct Memory {
     pub win: [u32; 2],
     pub free: [u32; 2],

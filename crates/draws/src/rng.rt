@@ -8,20 +8,20 @@ pub const GOLDEN_GAMMA: u64 = 0x9E37_79B9_7F4A_7C15;
 const DRAWS: f64 = 9007199254740992.0;
 
 // The generator xorshift64*.
-#[derive(Drop)]
+#[derive(Clone, Copy)]
 pub struct Rng {
     pub state: u64,
 }
 
 // A draw of 64 bits, and the generator after it.
-#[derive(Drop)]
+#[derive(Clone, Copy)]
 pub struct DrawU64 {
     pub rng: Rng,
     pub value: u64,
 }
 
 // A draw from 0 up to 1, and the generator after it.
-#[derive(Drop)]
+#[derive(Clone, Copy)]
 pub struct DrawF64 {
     pub rng: Rng,
     pub value: f64,

@@ -1,7 +1,7 @@
 // The numbers before a step, in hexadecimal digits and parted by blanks.
 
 // The last number and the two before it, or 0 for each that there is not.
-#[derive(Drop)]
+#[derive(Clone, Copy)]
 pub struct Numbers {
     pub first: u64,
     pub second: u64,

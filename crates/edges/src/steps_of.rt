@@ -7,7 +7,7 @@ use engine::ArrivalEngine;
 use options::DirectionConfig;
 
 // A case on its way; `named` says whether it has its name.
-#[derive(Drop)]
+#[derive(Clone, Copy)]
 struct Case {
     engine: ArrivalEngine,
     numbers: Numbers,

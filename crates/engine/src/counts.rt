@@ -8,7 +8,7 @@ use accounts::DirectionStats;
 use steps::{Arrival, Decision};
 
 // By how much each counter of a decision grows, 0 or 1.
-#[derive(Drop)]
+#[derive(Clone, Copy)]
 pub struct DecisionCounts {
     pub random: u64,
     pub ge: u64,

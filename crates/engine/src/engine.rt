@@ -3,7 +3,7 @@ use draws::Rng;
 use options::DirectionConfig;
 
 // The settings of a direction, what the arrivals so far have left, and their counts.
-#[derive(Drop)]
+#[derive(Clone, Copy)]
 pub struct ArrivalEngine {
     pub cfg: DirectionConfig,
     pub rng: Rng,

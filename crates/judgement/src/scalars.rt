@@ -7,7 +7,7 @@ use options::{DirectionConfig, MtuOption, RateOption};
 use settings::GeOption;
 
 // Apart from the lists, so that it can be handed on without a copy of them.
-#[derive(Drop)]
+#[derive(Clone, Copy)]
 pub struct DirectionScalars {
     pub loss: f64,
     pub ge: GeOption,

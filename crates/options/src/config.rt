@@ -7,21 +7,21 @@ use numbers::MAX_ENTRIES;
 use settings::{GeOption, TcpKill, Window, no_kill, no_window};
 
 // A rate in bits a second, where there is one.
-#[derive(Drop)]
+#[derive(Clone, Copy)]
 pub enum RateOption {
     Absent,
     Present(u64),
 }
 
 // The longest datagram that passes, where there is such a limit.
-#[derive(Drop)]
+#[derive(Clone, Copy)]
 pub enum MtuOption {
     Absent,
     Present(usize),
 }
 
 // What a direction does to its packets; of the two lists only the counted entries are settings.
-#[derive(Drop)]
+#[derive(Clone, Copy)]
 pub struct DirectionConfig {
     pub loss: f64,
     pub ge: GeOption,
@@ -74,7 +74,7 @@ pub const DEFAULT_SEED: u64 = 1;
 pub const DEFAULT_QUEUE_CAP: u64 = 100000;
 
 // The settings of an option text.
-#[derive(Drop)]
+#[derive(Clone, Copy)]
 pub struct Config {
     pub mode: Mode,
     pub seed: u64,

@@ -5,7 +5,7 @@ ghost use Rattle.options.specs.Directions.{undelayed_of, delays_of};
 use numbers::REFUSED_REORDER;
 use settings::{Kind, earlier_of, float, refusal, setting_at};
 
-#[derive(Drop)]
+#[derive(Clone, Copy)]
 pub struct Delays {
     pub delay_ms: f64,
     pub jitter_ms: f64,

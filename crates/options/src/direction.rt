@@ -10,7 +10,7 @@ use crate::schedules::{Schedules, schedules_of};
 use settings::earlier_of;
 
 // The settings of a direction, with 0 or the number of the first refusal.
-#[derive(Drop)]
+#[derive(Clone, Copy)]
 pub struct Directed {
     pub config: DirectionConfig,
     pub refusal: u32,

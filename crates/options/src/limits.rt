@@ -5,7 +5,7 @@ ghost use Rattle.options.specs.Directions.{rate_of, default_burst_of, burst_of, 
 use crate::config::{MtuOption, RateOption};
 use settings::{Kind, Setting, earlier_of, float, refusal, setting_at, whole};
 
-#[derive(Drop)]
+#[derive(Clone, Copy)]
 pub struct Limits {
     pub duplicate_p: f64,
     pub rate_bps: RateOption,

@@ -4,7 +4,7 @@ ghost use Rattle.options.specs.Directions.{losses_of};
 
 use settings::{GeOption, Kind, earlier_of, float, ge_at, refusal, setting_at};
 
-#[derive(Drop)]
+#[derive(Clone, Copy)]
 pub struct Losses {
     pub loss: f64,
     pub ge: GeOption,

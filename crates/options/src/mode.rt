@@ -10,14 +10,14 @@ use numbers::{REFUSED_MODE, REFUSED_OTHER_MODE};
 use values::{is_same, part};
 
 // Whether datagrams or streams are carried.
-#[derive(Drop)]
+#[derive(Clone, Copy)]
 pub enum Mode {
     Udp,
     Tcp,
 }
 
 // A mode that was read, with 0 or the number of the refusal.
-#[derive(Drop)]
+#[derive(Clone, Copy)]
 pub struct ModeRead {
     pub mode: Mode,
     pub refusal: u32,

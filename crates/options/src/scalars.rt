@@ -9,7 +9,7 @@ use args::{Found, has_flag, last_of};
 use settings::{Kind, earlier_of, refusal, setting_at, whole};
 use values::{is_same, part};
 
-#[derive(Drop)]
+#[derive(Clone, Copy)]
 pub struct LineScalars {
     pub mode: Mode,
     pub seed: u64,

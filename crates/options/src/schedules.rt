@@ -8,7 +8,7 @@ use settings::{
     windows_of,
 };
 
-#[derive(Drop)]
+#[derive(Clone, Copy)]
 pub struct Schedules {
     pub blackouts: [Window; MAX_ENTRIES],
     pub blackout_count: usize,

@@ -2,7 +2,7 @@
 use crate::queue::ImpairQueue;
 
 // A copy that leaves: its bytes are the first `length` of its slot.
-#[derive(Drop)]
+#[derive(Clone, Copy)]
 pub struct Queued {
     pub due_ms: f64,
     pub seq: u64,
@@ -14,21 +14,21 @@ pub struct Queued {
 }
 
 // A queue was made, or the number of the refusal.
-#[derive(Drop)]
+#[derive(Clone, Copy)]
 pub enum CreateAnswer {
     Created,
     Refused(u32),
 }
 
 // The seq of the first copy that entered and how many entered, or the number of the refusal.
-#[derive(Drop)]
+#[derive(Clone, Copy)]
 pub enum PushAnswer {
     Entered { seq: u64, copies: u32 },
     Refused(u32),
 }
 
 // The copy that left, that none is due, or the number of the refusal.
-#[derive(Drop)]
+#[derive(Clone, Copy)]
 pub enum ReleaseAnswer {
     Released(Queued),
     NoneDue,
@@ -36,7 +36,7 @@ pub enum ReleaseAnswer {
 }
 
 // The least due, that no copy is held, or the number of the refusal.
-#[derive(Drop)]
+#[derive(Clone, Copy)]
 pub enum DueAnswer {
     Due(f64),
     Empty,
@@ -44,31 +44,31 @@ pub enum DueAnswer {
 }
 
 // How many copies left, or the number of the refusal.
-#[derive(Drop)]
+#[derive(Clone, Copy)]
 pub enum DrainAnswer {
     Drained(usize),
     Refused(u32),
 }
 
-#[derive(Drop)]
+#[derive(Clone, Copy)]
 pub struct Created {
     pub queue: ImpairQueue,
     pub answer: CreateAnswer,
 }
 
-#[derive(Drop)]
+#[derive(Clone, Copy)]
 pub struct Pushed {
     pub queue: ImpairQueue,
     pub answer: PushAnswer,
 }
 
-#[derive(Drop)]
+#[derive(Clone, Copy)]
 pub struct Released {
     pub queue: ImpairQueue,
     pub answer: ReleaseAnswer,
 }
 
-#[derive(Drop)]
+#[derive(Clone, Copy)]
 pub struct Drained {
     pub queue: ImpairQueue,
     pub answer: DrainAnswer,

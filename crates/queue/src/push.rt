@@ -14,7 +14,7 @@ use numbers::REFUSED_KEEPING;
 const SECOND_COPY_ID: u32 = 1;
 
 // The state after a copy, and whether its slot was in range, so that it entered.
-#[derive(Drop)]
+#[derive(Clone, Copy)]
 pub(crate) struct CopyEntered {
     pub queue: ImpairQueue,
     pub fits: bool,

@@ -4,7 +4,7 @@ ghost use Rattle.queue.specs.Calls.{len_of, is_empty_of};
 
 // `leaves` slots have a leaf in the tournament, and the first `opened` slots were used. The slots that copies have left lie in the table `free`,
 // the last one last.
-#[derive(Drop)]
+#[derive(Clone, Copy)]
 pub struct ImpairQueue {
     pub cap: u32,
     pub held: u32,

@@ -3,7 +3,7 @@ use crate::memory::Tables;
 use queue::{CreateAnswer, DrainAnswer, DueAnswer, ImpairQueue, PushAnswer, Queued, ReleaseAnswer};
 
 // Entered has the seq; Held has how many copies are held, and whether none is.
-#[derive(Drop)]
+#[derive(Clone, Copy)]
 pub enum Answer {
     Created,
     Entered(u64),
@@ -18,7 +18,7 @@ pub enum Answer {
 }
 
 // The queue and the tables after a call, and the answer.
-#[derive(Drop)]
+#[derive(Clone, Copy)]
 pub struct Answered {
     pub queue: ImpairQueue,
     pub tables: Tables,

@@ -1,7 +1,7 @@
 // A call on a queue.
 
 // A copy that is to enter, but for its bytes.
-#[derive(Drop)]
+#[derive(Clone, Copy)]
 pub struct Copy {
     pub due_ms: f64,
     pub arrival_ms: f64,
@@ -10,7 +10,7 @@ pub struct Copy {
 }
 
 // A call, or none.
-#[derive(Drop)]
+#[derive(Clone, Copy)]
 pub enum Call {
     Create(usize),
     Push(Copy),

@@ -3,7 +3,7 @@ ghost use Rattle.std.specs.Prelude.{◌≤◌};
 
 // The tables but for the store, with room for 256 copies. They have numbers: win 1, free 2, dues 3, seqs 4, arrivals 5, routes 6, copy ids 7, lengths 8 and
 // the store 9.
-#[derive(Drop)]
+#[derive(Clone, Copy)]
 pub struct Tables {
     pub win: [u32; 256],
     pub free: [u32; 256],
@@ -33,7 +33,7 @@ impl Tables {
 
 // The part that a call is lent: from entry `start` of each table on so many entries, and of the store from byte `start` on 2,048 bytes for each. Table number
 // `short` lacks the last entry, the store its last byte; 0 stands for none.
-#[derive(Drop)]
+#[derive(Clone, Copy)]
 pub struct Lent {
     pub start: u32,
     pub entries: u32,

@@ -5,7 +5,7 @@ use queue::ImpairQueue;
 use queue_calls::{Answer, Call, Lent, Tables};
 
 // The queue and the tables after the call, the answer, and whether all was kept.
-#[derive(Drop)]
+#[derive(Clone, Copy)]
 pub struct Judged {
     pub queue: ImpairQueue,
     pub tables: Tables,

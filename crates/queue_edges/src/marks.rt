@@ -3,7 +3,7 @@ use queue_calls::{Lent, Tables};
 use script::payload;
 
 // The sums of what is lent and of what lies around it.
-#[derive(Drop)]
+#[derive(Clone, Copy)]
 pub struct Marks {
     pub lent: u64,
     pub around: u64,

@@ -2,7 +2,7 @@
 use queue_calls::Answer;
 
 // `refused` has a count for each number of a refusal.
-#[derive(Drop)]
+#[derive(Clone, Copy)]
 pub struct Tally {
     pub entered: u64,
     pub released: u64,

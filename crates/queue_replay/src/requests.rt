@@ -5,7 +5,7 @@ use queue_calls::{Call, Copy};
 use script::{Event, fields};
 
 // A call; of a push also the number of the bytes and the seed that they are made from.
-#[derive(Drop)]
+#[derive(Clone, Copy)]
 pub struct Request {
     pub call: Call,
     pub length: u64,

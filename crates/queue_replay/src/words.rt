@@ -2,7 +2,7 @@
 use script::fields;
 
 // What the first word of a line asks for.
-#[derive(Drop)]
+#[derive(Clone, Copy)]
 pub enum Word {
     Queue,
     Push,

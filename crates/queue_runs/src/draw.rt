@@ -4,7 +4,7 @@ use draws::Rng;
 use queue_calls::{Call, Copy};
 
 // A call, the seed of its copy, and the generator after it.
-#[derive(Drop)]
+#[derive(Clone, Copy)]
 pub struct Drawn {
     pub rng: Rng,
     pub call: Call,

@@ -4,7 +4,7 @@ use queue::Queued;
 use queue_calls::{Answer, Call, Copy};
 
 // How many copies are held, how many may be, the next seq, and of each copy the due, the seq and its seed.
-#[derive(Drop)]
+#[derive(Clone, Copy)]
 pub struct List {
     pub held: u64,
     pub cap: u64,
@@ -15,7 +15,7 @@ pub struct List {
 }
 
 // The list after a call, the answer, and the seed of a copy that left, else 0.
-#[derive(Drop)]
+#[derive(Clone, Copy)]
 pub struct Listed {
     pub list: List,
     pub answer: Answer,

@@ -1,7 +1,7 @@
 // How often each answer came.
 use queue_calls::Answer;
 
-#[derive(Drop)]
+#[derive(Clone, Copy)]
 pub struct Tally {
     pub calls: u64,
     pub entered: u64,

@@ -2,7 +2,7 @@
 
 // A call, or none: Bad is a line that asks for nothing, and Nothing is no line. An option text has its length; a creation whether it is that of c2s, the salt and
 // the capacity; an arrival and a release the instant.
-#[derive(Drop)]
+#[derive(Clone, Copy)]
 pub enum Call {
     Options(usize),
     Create(bool, u64, u64),
@@ -16,7 +16,7 @@ pub enum Call {
 }
 
 // A packet that arrives: its route, its length, and the seed that its bytes are made from.
-#[derive(Drop)]
+#[derive(Clone, Copy)]
 pub struct Packet {
     pub route: u64,
     pub length: u64,

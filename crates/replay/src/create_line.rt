@@ -5,7 +5,7 @@ use device::Device;
 use options::DirectionConfig;
 
 // The settings of a direction, and the seed.
-#[derive(Drop)]
+#[derive(Clone, Copy)]
 struct Choice {
     settings: DirectionConfig,
     seed: u64,

@@ -3,7 +3,7 @@ use device::{Created, Device};
 use options::DirectionConfig;
 
 // How many bytes of answers are collected, as output::collected has it; how long the last option text is; and the device.
-#[derive(Drop)]
+#[derive(Clone, Copy)]
 pub struct State {
     pub at: usize,
     pub length: usize,

@@ -1,7 +1,7 @@
 // The words that a line begins with.
 
 // What the first word of a line asks for.
-#[derive(Drop)]
+#[derive(Clone, Copy)]
 pub enum Word {
     Options,
     Create,

@@ -6,7 +6,7 @@ use crate::lines;
 use crate::lines::Line;
 
 // Where the bytes behind a cut begin, the line before it, and whether the line has ended.
-#[derive(Drop)]
+#[derive(Clone, Copy)]
 pub struct Cut {
     pub next: usize,
     pub line: Line,

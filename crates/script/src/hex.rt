@@ -5,7 +5,7 @@ ghost use Rattle.script.specs.Hex.{digit_of, pair_of, decode_of};
 use crate::parts;
 
 // How many bytes the digits stand for, or that they are not whole pairs of digits.
-#[derive(Drop)]
+#[derive(Clone, Copy)]
 pub enum Decoded {
     Bytes(usize),
     Wrong,

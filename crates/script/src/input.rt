@@ -7,7 +7,7 @@ use crate::{cuts, lines};
 use libc::STDIN_FILENO;
 
 // Which bytes of the chunk are to be cut still, and the line that has begun.
-#[derive(Drop)]
+#[derive(Clone, Copy)]
 pub struct Source {
     pub from: usize,
     pub to: usize,
@@ -15,7 +15,7 @@ pub struct Source {
 }
 
 // A whole line; or that the chunk is used up, so that answers are to be written before more is waited for; or the end.
-#[derive(Drop)]
+#[derive(Clone, Copy)]
 pub enum Event {
     Whole(Line),
     Pause,
@@ -23,7 +23,7 @@ pub enum Event {
 }
 
 // The source after an event.
-#[derive(Drop)]
+#[derive(Clone, Copy)]
 pub struct Read {
     pub source: Source,
     pub event: Event,

@@ -7,7 +7,7 @@ use crate::{hex, parts};
 
 // What follows the bytes of a line that are kept. The digits are told apart by how many there are, so that a line of
 // any length is known to have whole pairs of digits, where an even number of bytes is kept.
-#[derive(Drop)]
+#[derive(Clone, Copy)]
 pub enum Beyond {
     Nothing,
     EvenDigits,
@@ -16,7 +16,7 @@ pub enum Beyond {
 }
 
 // A line that has begun: how many of its bytes are kept, and what follows them.
-#[derive(Drop)]
+#[derive(Clone, Copy)]
 pub struct Line {
     pub length: usize,
     pub beyond: Beyond,

@@ -6,7 +6,7 @@ ghost use Rattle.script.specs.Patterns.{pattern_of};
 use crate::hex;
 
 // A bit pattern, or that the digits are none.
-#[derive(Drop)]
+#[derive(Clone, Copy)]
 pub enum Pattern {
     Bits(u64),
     Wrong,

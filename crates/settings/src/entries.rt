@@ -10,14 +10,14 @@ use numbers::{MAX_ENTRIES, REFUSED_ENTRIES};
 use values::part;
 
 // Which list is read.
-#[derive(Drop)]
+#[derive(Clone, Copy)]
 pub enum EntryKind {
     Blackout,
     Kill,
 }
 
 // What was gathered, with 0 or the number of the refusal; a blackout is a window that holds.
-#[derive(Drop)]
+#[derive(Clone, Copy)]
 pub struct Entries {
     pub kills: [TcpKill; MAX_ENTRIES],
     pub count: usize,

@@ -8,7 +8,7 @@ use numbers::{REFUSED_GE_PARTS, REFUSED_GE_ZERO};
 use values::{Colons, Decimal, behind, colons_of, front, parse_prob, part};
 
 // The chances to turn bad, to turn good again, and to lose a packet while bad.
-#[derive(Drop)]
+#[derive(Clone, Copy)]
 pub struct Ge {
     pub p: f64,
     pub r: f64,
@@ -16,14 +16,14 @@ pub struct Ge {
 }
 
 // Burst loss, where there is one.
-#[derive(Drop)]
+#[derive(Clone, Copy)]
 pub enum GeOption {
     Absent,
     Present(Ge),
 }
 
 // Burst loss that was read, with 0 or the number of the refusal.
-#[derive(Drop)]
+#[derive(Clone, Copy)]
 pub struct GeRead {
     pub ge: GeOption,
     pub refusal: u32,

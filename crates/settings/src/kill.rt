@@ -7,27 +7,27 @@ use numbers::{REFUSED_KILL_PARTS, REFUSED_KILL_STYLE};
 use values::{Colons, behind, colons_of, front, is_same, parse_bounded, trim};
 
 // Whether a kill resets the connection, or holds its bytes back until the window ends.
-#[derive(Drop)]
+#[derive(Clone, Copy)]
 pub enum KillStyle {
     Rst,
     Hold,
 }
 
-#[derive(Drop)]
+#[derive(Clone, Copy)]
 pub struct TcpKill {
     pub window: Window,
     pub style: KillStyle,
 }
 
 // A kill, or the number of the refusal.
-#[derive(Drop)]
+#[derive(Clone, Copy)]
 pub enum KillRead {
     Taken(TcpKill),
     Refused(u32),
 }
 
 // A style, or the number of the refusal.
-#[derive(Drop)]
+#[derive(Clone, Copy)]
 pub enum StyleRead {
     Taken(KillStyle),
     Refused(u32),

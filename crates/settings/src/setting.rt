@@ -9,7 +9,7 @@ use values::{
 };
 
 // Which numbers an option takes.
-#[derive(Drop)]
+#[derive(Clone, Copy)]
 pub enum Kind {
     Probability,
     Milliseconds,
@@ -19,7 +19,7 @@ pub enum Kind {
 }
 
 // What the text says of an option.
-#[derive(Drop)]
+#[derive(Clone, Copy)]
 pub enum Setting {
     Absent,
     Decimal(f64),

@@ -6,14 +6,14 @@ use numbers::{REFUSED_COLON, REFUSED_WINDOW};
 use values::{Whole, behind, front, parse_bounded, trim, up_to};
 
 // The milliseconds from start_ms on and before end_ms.
-#[derive(Drop)]
+#[derive(Clone, Copy)]
 pub struct Window {
     pub start_ms: u64,
     pub end_ms: u64,
 }
 
 // A window, or the number of the refusal.
-#[derive(Drop)]
+#[derive(Clone, Copy)]
 pub enum WindowRead {
     Taken(Window),
     Refused(u32),

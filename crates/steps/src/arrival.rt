@@ -9,7 +9,7 @@ use draws::Rng;
 use judgement::DirectionScalars;
 
 // What decides an arrival beside the settings, and is changed by it.
-#[derive(Drop)]
+#[derive(Clone, Copy)]
 pub struct ArrivalState {
     pub rng: Rng,
     pub ge_bad: bool,
@@ -18,7 +18,7 @@ pub struct ArrivalState {
 }
 
 // The state after an arrival, its decision, whether the bucket deferred it, and whether the reorder draw hit.
-#[derive(Drop)]
+#[derive(Clone, Copy)]
 pub struct Arrival {
     pub state: ArrivalState,
     pub decision: Decision,

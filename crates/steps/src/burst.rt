@@ -6,7 +6,7 @@ use draws::Rng;
 use settings::GeOption;
 
 // The generator, whether the state is bad now, and whether the packet is lost.
-#[derive(Drop)]
+#[derive(Clone, Copy)]
 pub struct Burst {
     pub rng: Rng,
     pub bad: bool,

@@ -5,7 +5,7 @@ ghost use Rattle.steps.specs.Chance.{chance_of};
 use draws::Rng;
 
 // The generator, and whether the draw was below the probability.
-#[derive(Drop)]
+#[derive(Clone, Copy)]
 pub struct Chance {
     pub rng: Rng,
     pub hit: bool,

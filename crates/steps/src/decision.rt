@@ -3,7 +3,7 @@ ghost use Rattle.std.specs.Prelude.{◌≡◌};
 ghost use Rattle.steps.specs.Decision.{is_drop_of};
 
 // It is dropped for a reason, or enqueued with its due and whether it is duplicated, or its connection is reset.
-#[derive(Drop)]
+#[derive(Clone, Copy)]
 pub enum Decision {
     DropRandom,
     DropGe,

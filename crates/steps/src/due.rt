@@ -6,7 +6,7 @@ use draws::Rng;
 use options::RateOption;
 
 // The generator, and the due.
-#[derive(Drop)]
+#[derive(Clone, Copy)]
 pub struct Due {
     pub rng: Rng,
     pub due_ms: f64,

@@ -7,7 +7,7 @@ use numbers::MAX_ENTRIES;
 use settings::{KillStyle, TcpKill};
 
 // No window stops a packet, or a kill resets or holds, or a blackout drops.
-#[derive(Drop)]
+#[derive(Clone, Copy)]
 pub enum Gate {
     Open,
     Reset,

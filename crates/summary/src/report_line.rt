@@ -20,14 +20,14 @@ pub const TORN: usize = 33;
 pub const NOT_A_NUMBER: u64 = 0x7ff8_0000_0000_0000;
 
 // The numbers in the order of the words, the floats by their bits, and 0 for the words `held` and `torn`; and whether all words are what they should be.
-#[derive(Drop)]
+#[derive(Clone, Copy)]
 pub struct ReportLine {
     pub numbers: [u64; WORDS],
     pub is_report: bool,
 }
 
 // A word's number, or that the word is not what stands at its place.
-#[derive(Drop)]
+#[derive(Clone, Copy)]
 enum Field {
     Number(u64),
     Wrong,

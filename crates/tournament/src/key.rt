@@ -44,7 +44,7 @@ fn choose_due(first: bool, a: f64, b: f64) -> f64
 }
 
 // A slot and its due.
-#[derive(Drop)]
+#[derive(Clone, Copy)]
 pub(crate) struct Keyed {
     pub slot: u32,
     pub due_ms: f64,

@@ -5,7 +5,7 @@ ghost use Rattle.values.specs.Parts.{colons_of};
 use crate::bytes::{behind, up_to};
 
 // Whether a value has exactly three parts, and how long the first two are.
-#[derive(Drop)]
+#[derive(Clone, Copy)]
 pub enum Colons {
     Two(usize, usize),
     Other,

@@ -9,7 +9,7 @@ use crate::whole::Whole;
 use numbers::{REFUSED_DECIMAL, REFUSED_PROBABILITY};
 
 // A decimal's value, or the number of the refusal.
-#[derive(Drop)]
+#[derive(Clone, Copy)]
 pub enum Decimal {
     Number(f64),
     Refused(u32),

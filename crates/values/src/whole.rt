@@ -6,7 +6,7 @@ use crate::digits::{digits_from, without_plus};
 use numbers::{MAX_EXACT, REFUSED_WHOLE, REFUSED_WHOLE_ABOVE, REFUSED_ZERO};
 
 // A whole number, or the number of the refusal.
-#[derive(Drop)]
+#[derive(Clone, Copy)]
 pub enum Whole {
     Number(u64),
     Refused(u32),

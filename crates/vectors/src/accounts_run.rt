@@ -4,7 +4,7 @@ use accounts::{DirectionStats, SendAccountant};
 use draws::Rng;
 
 // The records on their way through a long run, and the number that their floats were folded into.
-#[derive(Drop)]
+#[derive(Clone, Copy)]
 struct Run {
     rng: Rng,
     accountant: SendAccountant,

@@ -5,13 +5,13 @@ use crate::{accounts_run, floats, latencies, records, samples};
 use accounts::{DirectionStats, SendAccountant};
 
 // The records of the run from the first latency to the last, and of the one from the last to the first.
-#[derive(Drop)]
+#[derive(Clone, Copy)]
 struct Both {
     forwards: Records,
     backwards: Records,
 }
 
-#[derive(Drop)]
+#[derive(Clone, Copy)]
 struct Records {
     accountant: SendAccountant,
     stats: DirectionStats,

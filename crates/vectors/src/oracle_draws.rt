@@ -66,7 +66,7 @@ fn direction_seeds(seed: u64) {
 }
 
 // A generator on its way through a long run, and the number that its draws were folded into.
-#[derive(Drop)]
+#[derive(Clone, Copy)]
 struct Run {
     rng: Rng,
     fold: u64,

@@ -6,7 +6,7 @@ use accounts::{DirectionStats, SendAccountant};
 const TOO_MANY: u64 = 0x1000_0000_0000_0000;
 
 // A counter of an accountant; the bucket is the last of its histogram.
-#[derive(Drop)]
+#[derive(Clone, Copy)]
 enum SendCounter {
     Packets,
     Rebinds,
@@ -14,7 +14,7 @@ enum SendCounter {
 }
 
 // A counter of statistics.
-#[derive(Drop)]
+#[derive(Clone, Copy)]
 enum StatsCounter {
     Received,
     Resets,

@@ -74,12 +74,13 @@ recorded_all l (x ∷ xs) = recorded_all (recorded_of l x) xs
 stays_between : {l : LatencyStats} {xs : List Float} {y : Float} → l.count ≢ 0 → Numbered l → Number y → Numbers xs → Between l y → Between (recorded_all l xs) y
 unfolding recorded_of
 stays_between some n r no_numbers b = b
-stays_between some n r (more_numbers q qs) b = stays_between (λ e. omega (arith, e)) (recorded_numbered n q) r qs (others_between some n q r b)
+stays_between {l = l} {y = y} some n r (more_numbers {x = x} {xs = xs} q qs) b = stays_between {l = recorded_of l x} (λ e. omega (arith, e)) (recorded_numbered n q) r qs (others_between some n q r b)
 
 among_between : {l : LatencyStats} {xs : List Float} {y : Float} → Numbered l → Numbers xs → Among y xs → Between (recorded_all l xs) y
 unfolding recorded_of
+among_between {l = l} {y = y} n no_numbers a = elim a [ ]
 among_between n (more_numbers q qs) here = stays_between (λ e. omega (arith, e)) (recorded_numbered n q) q qs (new_between n q)
-among_between n (more_numbers q qs) (later a) = among_between (recorded_numbered n q) qs a
+among_between {l = l} {y = y} n (more_numbers {x = x} {xs = xs} q qs) (later a) = among_between {l = recorded_of l x} (recorded_numbered n q) qs a
 
 pub all_between : {xs : List Float} {y : Float} → Numbers xs → Among y xs → Between (recorded_all no_latencies xs) y
 all_between qs a = among_between none_numbered qs a

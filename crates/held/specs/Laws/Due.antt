@@ -1,6 +1,6 @@
 -- The copy that leaves is one of the list; and where every due is a number it is the least of all, if that one is due.
 use Rattle.std.specs.Prelude.{◌≡◌, refl, ◌⊎◌, Bool, true, false, not, cond, List, [], ◌∷◌, Float}
-use Rattle.std.proofs.Common.{sym, ap, ◌∙◌, inl, inr, true≢false}
+use Rattle.std.proofs.Common.{sym, ap, ◌∙◌, subst, inl, inr, true≢false}
 use Rattle.std.specs.Float.{nan, inf, fin}
 use Rattle.std.specs.Float.Ieee.{lt, eq, le, is_nan}
 use Rattle.numbers.specs.Laws.Kinds.{number_of}
@@ -26,7 +26,7 @@ due_mem now (x ∷ l) c k = go (le x.due now) k (due_mem now l c)
 least_in_mem : (l : List Copy) (c : Copy) → least_in l ≡ one_copy c → Mem c l
 unfolding least_in
 least_in_mem [] c e = let z : ◌≡◌ {A = Bool} true false = cc in absurd (true≢false z)
-least_in_mem (x ∷ l) c e = let z : least x l ≡ c = cc in rw (← z) (least_mem x l)
+least_in_mem (x ∷ l) c e = let z : least x l ≡ c = cc in subst (λ (w : Copy). Mem w (x ∷ l)) z (least_mem x l)
 
 pub leaving_mem : (now : Float) (l : List Copy) (c : Copy) → leaving now l ≡ one_copy c → Mem c l
 unfolding leaving
