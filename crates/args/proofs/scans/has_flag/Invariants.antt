@@ -1,0 +1,16 @@
+-- The flag stands in the text where it stands in what is left behind each pair; the step that is no pair says whether it does.
+use borrow.Author.Rules.{rules}
+use mathlib.Core.Path.{◌≡◌, sym, ap, ◌∙◌}
+use Prim.Native.Nat.{◌-◌}
+use lib.ListN.{length, drop}
+use Rattle.args.specs.Arguments.{Gathered, gathered, flag_in}
+use Rattle.args.specs.Places.{has_next}
+use Rattle.args.specs.Laws.Turn.{onward, turn_of}
+use Rattle.args.specs.Laws.Steps.{nearer}
+use Rattle.args.proofs.scans.has_flag.Given as goal
+
+abbrev pub invariant-loop : goal.invariant-loop
+invariant-loop l = flag_in (gathered l.text).items ≡ flag_in (gathered (drop l.cursor.at l.text)).items
+
+abbrev pub decreases-loop : goal.decreases-loop
+decreases-loop l = length l.text - l.cursor.at

@@ -1,0 +1,17 @@
+-- The last place is that found so far, or the last one behind it; each hit comes nearer to the end of the text.
+use borrow.Author.Rules.{rules}
+use native.Mathlib.Omega.{arith}
+use mathlib.Core.List.{◌++◌}
+use mathlib.Core.Path.{◌≡◌, sym, ap, ◌∙◌}
+use Prim.Native.Nat.{◌-◌}
+use lib.ListN.{length}
+use Rattle.args.specs.Places.{last_of}
+use Rattle.args.specs.Laws.Hits.{last_from_place, last_behind, last_behind_lem}
+use Rattle.args.specs.Laws.Values.{is_at, hit_nearer}
+use Rattle.args.proofs.scans.last_of.Given as goal
+
+abbrev pub invariant-loop-last : goal.invariant-loop-last
+invariant-loop-last l = last_of l.text (l.prefix ++ l.name) ≡ last_from_place l.text (l.prefix ++ l.name) l.last l.cursor.at
+
+abbrev pub decreases-loop-last : goal.decreases-loop-last
+decreases-loop-last l = length l.text - l.cursor.at

@@ -1,0 +1,16 @@
+-- The refusal of the text is that of what is left behind each step, and the step that does not go on says it.
+use borrow.Author.Rules.{rules}
+use mathlib.Core.Path.{◌≡◌, sym, ap, ◌∙◌}
+use Prim.Native.Nat.{◌-◌}
+use lib.ListN.{length, drop}
+use Rattle.args.specs.Arguments.{Gathered, gathered}
+use Rattle.args.specs.Places.{has_next}
+use Rattle.args.specs.Laws.Turn.{onward, turn_of}
+use Rattle.args.specs.Laws.Steps.{nearer}
+use Rattle.args.proofs.scans.refusal_of.Given as goal
+
+abbrev pub invariant-loop-n : goal.invariant-loop-n
+invariant-loop-n l = (gathered l.text).refusal ≡ (gathered (drop l.cursor.at l.text)).refusal
+
+abbrev pub decreases-loop-n : goal.decreases-loop-n
+decreases-loop-n l = length l.text - l.cursor.at

@@ -1,0 +1,6 @@
+-- The test of the two seqs that were read.
+use borrow.Author.Rules.{rules}
+use Rattle.tournament.proofs.key.earlier.Goals as goal
+
+pub returns : goal.returns
+returns c = rw (c.get_u64.ensures, c.get_u64-2.ensures)
