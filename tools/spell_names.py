@@ -77,7 +77,8 @@ def main():
     for path in texts("."):
         text = read(path)
         kept = {w.strip() for _, ws in USE.findall(text) for w in ws.split(",")}
-        turned = respelled(text, names, kept, "/specs/" in path)
+        own = names if path.endswith(".antt") else {name: names[name] for name in names if OLD.match(name)}
+        turned = respelled(text, own, kept, "/specs/" in path)
         if turned != text:
             count += 1
             with open(path, "w", encoding="utf-8") as it:

@@ -73,7 +73,7 @@ impl ImpairQueue {
     }
 
     // The state with one copy more.
-    fn one_more_lem(self, leaves: u32) -> ImpairQueue
+    fn one_more(self, leaves: u32) -> ImpairQueue
         requires { (self.held + 1 < 2 ^ 32) × (self.next_seq + 1 < 2 ^ 64) }
         ensures { result ≡ one_more self leaves }
     {
@@ -125,7 +125,7 @@ impl ImpairQueue {
             arrivals, routes, copy_ids, lengths, store, slot, arrival, route, copy_id, bytes,
         );
         CopyEntered {
-            queue: self.one_more_lem(leaves),
+            queue: self.one_more(leaves),
             fits: true,
         }
     }

@@ -1,0 +1,14 @@
+-- What the scan found is the last value of the key.
+use Rattle.args.specs.Laws.Values.{last_value}
+use Rattle.values.specs.Bytes.{bytes}
+use Rattle.options.specs.Modes.{mode_of}
+use borrow.Author.Rules.{rules}
+use Rattle.options.proofs.mode.mode_at.Goals as goal
+
+pub returns-in-Nothing : goal.returns-in-Nothing
+unfolding mode_of
+returns-in-Nothing c = rw (← (last_value c.args.text.now (bytes "mode")), ← c.last_of-found.ensures, c.in-Nothing.is)
+
+pub returns-in-At : goal.returns-in-At
+unfolding mode_of
+returns-in-At c = rw (← (last_value c.args.text.now (bytes "mode")), ← c.last_of-found.ensures, c.in-At.is, c.parse_mode.ensures, c.part.ensures)

@@ -1,0 +1,14 @@
+-- What the scan found is the last value of the key.
+use mathlib.Core.List.{◌++◌}
+use Rattle.args.specs.Laws.Values.{last_value}
+use Rattle.settings.specs.Bursts.{ge_of}
+use borrow.Author.Rules.{rules}
+use Rattle.settings.proofs.ge.ge_at.Goals as goal
+
+pub returns-in-Nothing : goal.returns-in-Nothing
+unfolding ge_of
+returns-in-Nothing c = rw (← (last_value c.args.text.now (c.args.prefix.now ++ c.args.name.now)), ← c.last_of-found.ensures, c.in-Nothing.is) c.no_ge.ensures
+
+pub returns-in-At : goal.returns-in-At
+unfolding ge_of
+returns-in-At c = rw (← (last_value c.args.text.now (c.args.prefix.now ++ c.args.name.now)), ← c.last_of-found.ensures, c.in-At.is, c.parse_ge.ensures, c.part.ensures)

@@ -1,0 +1,6 @@
+-- The window is the empty one.
+use borrow.Author.Rules.{rules}
+use Rattle.settings.proofs.kill.no_kill.Goals as goal
+
+pub returns : goal.returns
+returns c = rw c.no_window-window.ensures

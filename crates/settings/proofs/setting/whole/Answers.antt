@@ -1,0 +1,20 @@
+-- Only a whole number has a value of its own.
+use Rattle.settings.specs.Settings.{whole_of}
+use borrow.Author.Rules.{rules}
+use Rattle.settings.proofs.setting.whole.Goals as goal
+
+pub returns-in-Absent : goal.returns-in-Absent
+unfolding whole_of
+returns-in-Absent c = rw c.in-Absent.is
+
+pub returns-in-Decimal : goal.returns-in-Decimal
+unfolding whole_of
+returns-in-Decimal c = rw c.in-Decimal.is
+
+pub returns-in-Whole : goal.returns-in-Whole
+unfolding whole_of
+returns-in-Whole c = rw c.in-Whole.is
+
+pub returns-in-Refused : goal.returns-in-Refused
+unfolding whole_of
+returns-in-Refused c = rw c.in-Refused.is
