@@ -1,7 +1,7 @@
 -- THE THEOREM over what the functions of crates/queue themselves ensure: for every list of calls on a queue that `create` made, over any lent memory, each
 -- call answered and each table left as the contract of its function says, and each released copy's bytes read as that of `payload` says, the replies are the
 -- plain queue's. The functions are all that are public: `push`, `release`, `drain`, `next_due`, `len`, `is_empty` and `has_memory`.
-use Rattle.std.specs.Prelude.{◌≡◌, refl, Bool, true, List, [], ◌∷◌, ℕ, Float, length}
+use Rattle.std.specs.Prelude.{◌≡◌, refl, Bool, true, false, List, [], ◌∷◌, ℕ, Float, length}
 use Rattle.std.proofs.Common.{sym, ap, ◌∙◌}
 use contract.Lifetimes
 use borrow.Fn.World
@@ -58,14 +58,14 @@ use Rattle.queue_laws.specs.Laws.Runs.{created_agrees, refused_creation_agrees}
 -- a call of `create` with the capacity cap, over the tables t, returned r
 pub data Creates (cap : ℕ) (t : Tables) : Created → Type 1 where
   called : (κs : Lifetimes.Lfts 9) (a : World.ArgsD create_fn.signature κs) (r : World.ResD create_fn.signature κs) (s : Clauses.AtExit (Kinds'.ended_of 9 create_kinds.ps create_kinds.r) κs)
-      → a.0 ≡ cap → lent_tables a.1 ≡ t
+      → a.0 ≡ cap → lent_tables false false false a.1 ≡ t
       → create.Learnt κs a r s
       → Creates cap t r
 
 -- a call of `push` on the state q and the tables t, with what is pushed, returned r and left tables
 pub data Pushes (q : ImpairQueue) (t : Tables) (due arrival : Float) (route id : ℕ) (duplicated : Bool) (bytes : List ℕ) : Pushed → Tables → Type 1 where
   called : (κs : Lifetimes.Lfts 10) (a : World.ArgsD push_fn.signature κs) (r : World.ResD push_fn.signature κs) (s : Clauses.AtExit (Kinds'.ended_of 10 push_kinds.ps push_kinds.r) κs)
-      → a.0 ≡ q → lent_tables a.1 ≡ t
+      → a.0 ≡ q → lent_tables true false true a.1 ≡ t
       → a.1.1.1.1.1.1.1.1.1.1.0 ≡ due
       → a.1.1.1.1.1.1.1.1.1.1.1.0 ≡ arrival
       → a.1.1.1.1.1.1.1.1.1.1.1.1.0 ≡ route
@@ -73,15 +73,15 @@ pub data Pushes (q : ImpairQueue) (t : Tables) (due arrival : Float) (route id :
       → a.1.1.1.1.1.1.1.1.1.1.1.1.1.1.0 ≡ duplicated
       → a.1.1.1.1.1.1.1.1.1.1.1.1.1.1.1.0.now ≡ bytes
       → push.Learnt κs a r s
-      → Pushes q t due arrival route id duplicated bytes r (left_by_entry (lent_tables a.1) (lent_tables s.1))
+      → Pushes q t due arrival route id duplicated bytes r (left_by_entry (lent_tables true false true a.1) (lent_tables true false true s.1))
 
 -- a call of `release` at an instant
 pub data Releases (q : ImpairQueue) (t : Tables) (instant : Float) : Released → Tables → Type 1 where
   called : (κs : Lifetimes.Lfts 9) (a : World.ArgsD release_fn.signature κs) (r : World.ResD release_fn.signature κs) (s : Clauses.AtExit (Kinds'.ended_of 9 release_kinds.ps release_kinds.r) κs)
-      → a.0 ≡ q → lent_tables a.1 ≡ t
+      → a.0 ≡ q → lent_tables true true false a.1 ≡ t
       → a.1.1.1.1.1.1.1.1.1.1.0 ≡ instant
       → release.Learnt κs a r s
-      → Releases q t instant r (left_by_exit (lent_tables a.1) (lent_tables s.1))
+      → Releases q t instant r (left_by_exit (lent_tables true true false a.1) (lent_tables true true false s.1))
 
 -- a call of `drain`, which is lent no table
 pub data Drains (q : ImpairQueue) : Drained → Type 1 where

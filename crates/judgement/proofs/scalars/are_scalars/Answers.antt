@@ -1,0 +1,8 @@
+-- Each setting by its own test, in the order of the definition.
+use Rattle.judgement.specs.Scalars.{are_scalars_of}
+use borrow.Author.Rules.{rules}
+use Rattle.judgement.proofs.scalars.are_scalars.Goals as goal
+
+pub returns : goal.returns
+unfolding are_scalars_of
+returns c = rw (c.is_bounded-2.ensures, c.is_mtu.ensures, c.is_bounded.ensures, c.is_rate.ensures, c.is_probability-3.ensures, c.is_time-3.ensures, c.is_probability-2.ensures, c.is_time-2.ensures, c.is_time.ensures, c.is_ge.ensures, c.is_probability.ensures)

@@ -1,0 +1,8 @@
+-- Two comparisons.
+use mathlib.Core.Path.{refl}
+use lib.Ieee.{of_int, of_bits}
+use Rattle.judgement.proofs.setting.is_time.Goals as goal
+
+pub returns : goal.returns
+unfolding of_int of_bits
+returns c = refl
