@@ -129,8 +129,8 @@ after_all e (a ∷ l) = after_all (decide_passed_of e a.0 a.1).engine l
 
 pub arrivals_sound : (e : ArrivalEngine) (l : List (Float × ℕ)) → SoundEngine e → AllPlanned l → SoundEngine (after_all e l)
 arrivals_sound e [] s h = s
-arrivals_sound e (a ∷ l) s h = arrivals_sound _ l (passed_sound e a.0 a.1 s h.0).0 h.1
+arrivals_sound e (a ∷ l) s h = arrivals_sound (decide_passed_of e a.0 a.1).engine l (passed_sound e a.0 a.1 s h.0).0 h.1
 
 pub dues_sound : (e : ArrivalEngine) (l : List (Float × ℕ)) → SoundEngine e → AllPlanned l → DuesAlong e l
 dues_sound e [] s h = tt
-dues_sound e (a ∷ l) s h = let after = passed_sound e a.0 a.1 s h.0 in (after.1, dues_sound _ l after.0 h.1)
+dues_sound e (a ∷ l) s h = let after = passed_sound e a.0 a.1 s h.0 in (after.1, dues_sound (decide_passed_of e a.0 a.1).engine l after.0 h.1)

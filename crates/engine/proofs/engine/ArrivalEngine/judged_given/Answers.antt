@@ -1,0 +1,8 @@
+-- The counters by their contract.
+use Rattle.engine.specs.Refusals.{judged_given_of}
+use borrow.Author.Rules.{rules}
+use Rattle.engine.proofs.engine.ArrivalEngine.judged_given.Goals as goal
+
+pub returns : goal.returns
+unfolding judged_given_of
+returns c = rw (c.refusal.ensures, c.in_range.ensures)
