@@ -5,7 +5,8 @@ mod parses;
 mod print;
 mod sends;
 
-use libc::STDIN_FILENO;
+// The number of standard input.
+const STDIN_FILENO: i32 = 0;
 
 fn main() {
     let mut space = io::large_buffer();

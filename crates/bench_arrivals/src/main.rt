@@ -3,7 +3,8 @@
 
 mod decides;
 
-use libc::STDIN_FILENO;
+// The number of standard input.
+const STDIN_FILENO: i32 = 0;
 
 fn main() {
     let mut space = io::large_buffer();

@@ -1,11 +1,13 @@
 // Text that is collected in a lent buffer, so that one call writes many words. `at` says how many bytes of `out`
 // are collected and not yet written; each function returns that number as it is then.
-use libc::STDOUT_FILENO;
+use crate::STDOUT_FILENO;
 
 // A word that does not fit behind what is collected is written at once, after it.
 pub fn text(out: &mut [u8], at: usize, word: &[u8]) -> usize {
     if at <= out.len() && word.len() <= out.len() - at {
-        at + bytes::copy(word, &mut out[at..])
+        let end = at + word.len();
+        out[at..end].copy_from_slice(word);
+        end
     } else {
         flush(out, at);
         io::write_all(STDOUT_FILENO, word);

@@ -3,7 +3,8 @@
 
 pub mod collected;
 
-use libc::STDOUT_FILENO;
+// The number of standard output.
+const STDOUT_FILENO: i32 = 1;
 
 pub fn text(word: &[u8]) {
     io::write_all(STDOUT_FILENO, word);

@@ -4,7 +4,8 @@ ghost use Rattle.script.specs.Turns.{turns_after};
 
 use crate::lines::Line;
 use crate::{cuts, lines};
-use libc::STDIN_FILENO;
+use std::io::Read as ReadBytes;
+use std::rt::Stdin;
 
 // Which bytes of the chunk are to be cut still, and the line that has begun.
 #[derive(Clone, Copy)]
@@ -41,14 +42,14 @@ impl Source {
     }
 
     // The next event. `chunk` and `kept` are those of every call; `kept` has the bytes of a whole line.
-    pub fn next(self, chunk: &mut [u8], kept: &mut [u8]) -> Read {
+    pub fn next(self, stdin: Stdin, chunk: &mut [u8], kept: &mut [u8]) -> Read {
         let line = self.line;
         if self.from < self.to {
             next_line(values::front(chunk, self.to), self, kept)
         } else if self.to > 0 {
             paused(0, line)
         } else {
-            filled(chunk, line)
+            filled(stdin, chunk, line)
         }
     }
 }
@@ -91,9 +92,8 @@ fn next_line(chunk: &[u8], s: Source, kept: &mut [u8]) -> Read {
 }
 
 // The next chunk is read; where there is none, a line that has begun is whole.
-fn filled(chunk: &mut [u8], line: Line) -> Read {
-    let got = libc::read(STDIN_FILENO, chunk);
-    let n = io::count(got, chunk);
+fn filled(stdin: Stdin, chunk: &mut [u8], line: Line) -> Read {
+    let n = bytes_read(stdin, chunk);
     if n > 0 {
         paused(n, line)
     } else if line.length > 0 {
@@ -106,6 +106,14 @@ fn filled(chunk: &mut [u8], line: Line) -> Read {
             source: Source::new(),
             event: Event::End,
         }
+    }
+}
+
+// Reads some bytes of the input, and counts them: none at the end, and where the input cannot be read.
+fn bytes_read(mut stdin: Stdin, chunk: &mut [u8]) -> usize {
+    match stdin.read(chunk) {
+        Ok(n) => n,
+        Err(_) => 0,
     }
 }
 

@@ -18,7 +18,10 @@ pub fn keep_text(line: &[u8], beyond: Beyond, text: &mut [u8]) -> Decoded {
 
 // Copies as many bytes as there is room for, and counts them.
 fn stored(source: &[u8], text: &mut [u8]) -> usize {
-    bytes::copy(values::front(source, text.len()), text)
+    let fitting = values::front(source, text.len());
+    let n = fitting.len();
+    text[..n].copy_from_slice(fitting);
+    n
 }
 
 // Puts the option text into text, as hex::decode does; `line` is what is kept of the line, and `beyond` what follows.

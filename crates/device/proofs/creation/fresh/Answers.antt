@@ -1,0 +1,6 @@
+-- The accounts by their contract.
+use borrow.Author.Rules.{rules}
+use Rattle.device.proofs.creation.fresh.Goals as goal
+
+pub returns : goal.returns
+returns c = rw c.default.ensures
