@@ -1,6 +1,6 @@
 -- Runs of the program: each step is a call of a function of crates/device, answered and its tables left as the function's own contract says (`Learnt`), and begins
 -- with what the last one left.
-use Rattle.std.specs.Prelude.{◌≡◌, List, [], ◌∷◌, ℕ, T, Float}
+use Rattle.std.specs.Prelude.{◌≡◌, true, false, List, [], ◌∷◌, ℕ, T, Float}
 use Rattle.std.specs.Float.{binary64}
 use Rattle.std.specs.Float.Ieee.{fits}
 use contract.Lifetimes
@@ -61,7 +61,7 @@ pub data Parses (text : List ℕ) : Parsed → Type 1 where
 -- a call of `create` over the tables t returned r
 pub data Creates (cfg : DirectionConfig) (seed salt cap : ℕ) (t : Tables) : Created → Type 1 where
   called : (κs : Lifetimes.Lfts 9) (a : World.ArgsD create_fn.signature κs) (r : World.ResD create_fn.signature κs) (s : Clauses.AtExit (Kinds'.ended_of 9 create_kinds.ps create_kinds.r) κs)
-      → a.0 ≡ cfg → a.1.0 ≡ seed → a.1.1.0 ≡ salt → a.1.1.1.0 ≡ cap → lent_tables a.1.1.1.1 ≡ t
+      → a.0 ≡ cfg → a.1.0 ≡ seed → a.1.1.0 ≡ salt → a.1.1.1.0 ≡ cap → lent_tables false false false a.1.1.1.1 ≡ t
       → create.Learnt κs a r s
       → Creates cfg seed salt cap t r
 
@@ -69,20 +69,20 @@ pub data Creates (cfg : DirectionConfig) (seed salt cap : ℕ) (t : Tables) : Cr
 pub data Arrives (v : Device) (t : Tables) (instant : Float) (bytes : List ℕ) (route : ℕ) : Arrived → Tables → Type 1 where
   called : (κs : Lifetimes.Lfts 10) (a : World.ArgsD arrive_fn.signature κs) (r : World.ResD arrive_fn.signature κs) (s : Clauses.AtExit (Kinds'.ended_of 10 arrive_kinds.ps arrive_kinds.r) κs)
       → T (fits binary64 instant)
-      → a.0 ≡ v → lent_tables a.1 ≡ t
+      → a.0 ≡ v → lent_tables true false true a.1 ≡ t
       → a.1.1.1.1.1.1.1.1.1.1.0 ≡ instant
       → a.1.1.1.1.1.1.1.1.1.1.1.0.now ≡ bytes
       → a.1.1.1.1.1.1.1.1.1.1.1.1.0 ≡ route
       → arrive.Learnt κs a r s
-      → Arrives v t instant bytes route r (left_by_entry (lent_tables a.1) (lent_tables s.1))
+      → Arrives v t instant bytes route r (left_by_entry (lent_tables true false true a.1) (lent_tables true false true s.1))
 
 -- a call of `release` at an instant
 pub data Releases (v : Device) (t : Tables) (instant : Float) : Released → Tables → Type 1 where
   called : (κs : Lifetimes.Lfts 9) (a : World.ArgsD release_fn.signature κs) (r : World.ResD release_fn.signature κs) (s : Clauses.AtExit (Kinds'.ended_of 9 release_kinds.ps release_kinds.r) κs)
-      → a.0 ≡ v → lent_tables a.1 ≡ t
+      → a.0 ≡ v → lent_tables true true false a.1 ≡ t
       → a.1.1.1.1.1.1.1.1.1.1.0 ≡ instant
       → release.Learnt κs a r s
-      → Releases v t instant r (left_by_exit (lent_tables a.1) (lent_tables s.1))
+      → Releases v t instant r (left_by_exit (lent_tables true true false a.1) (lent_tables true true false s.1))
 
 -- calls of `rebind`, `teardown` and `report`, which are lent no table
 pub data Rebinds (v : Device) (instant : Float) : Rebound → Type 1 where
