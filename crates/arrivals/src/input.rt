@@ -2,8 +2,10 @@
 use crate::state::State;
 use crate::{calls, requests};
 use script::{Source, answers};
+use std::rt::Stdin;
 
 pub fn run(
+    stdin: Stdin,
     out: &mut [u8; 65536],
     chunk: &mut [u8; 65536],
     kept: &mut [u8; 65536],
@@ -13,7 +15,7 @@ pub fn run(
     let mut state = State::new();
     let mut turns = u64::MAX;
     while turns > 0 {
-        let read = source.next(chunk, kept);
+        let read = source.next(stdin, chunk, kept);
         source = read.source;
         let event = read.event;
         let request = requests::request_at(event, kept, text);

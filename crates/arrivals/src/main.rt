@@ -13,10 +13,10 @@ mod timed_lines;
 mod words;
 
 // The buffers are lent from here: that for option texts is above the 16,384 bytes that a text may have.
-fn main() {
+fn main(rt: HostRuntime) {
     let mut chunk = io::large_buffer();
     let mut kept = io::large_buffer();
     let mut text = [0u8; 32768];
     let mut out = io::large_buffer();
-    input::run(&mut out, &mut chunk, &mut kept, &mut text);
+    input::run(rt.stdin(), &mut out, &mut chunk, &mut kept, &mut text);
 }

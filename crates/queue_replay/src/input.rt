@@ -4,9 +4,11 @@ use output::collected;
 use queue::ImpairQueue;
 use queue_calls::{Answer, Lent, Tables};
 use script::{Event, Source, answers, payload};
+use std::rt::Stdin;
 
 // Before the first line the queue has capacity 1.
 pub fn run(
+    stdin: Stdin,
     chunk: &mut [u8; 65536],
     kept: &mut [u8; 65536],
     out: &mut [u8; 65536],
@@ -19,7 +21,7 @@ pub fn run(
     let mut at = 0;
     let mut turns = u64::MAX;
     while turns > 0 {
-        let read = source.next(chunk, kept);
+        let read = source.next(stdin, chunk, kept);
         source = read.source;
         let event = read.event;
         let request = requests::request_at(event, kept);

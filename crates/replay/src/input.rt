@@ -3,8 +3,10 @@ use crate::memory::{Buffer, Floats, Longs, Store, Text, Words};
 use crate::state::State;
 use crate::{lent, requests};
 use script::{Source, answers};
+use std::rt::Stdin;
 
 pub fn run(
+    stdin: Stdin,
     chunk: &mut Buffer,
     kept: &mut Buffer,
     text: &mut Text,
@@ -23,7 +25,7 @@ pub fn run(
     let mut state = State::new();
     let mut turns = u64::MAX;
     while turns > 0 {
-        let read = source.next(chunk, kept);
+        let read = source.next(stdin, chunk, kept);
         source = read.source;
         let event = read.event;
         let call = requests::call_at(event, kept, text);

@@ -18,7 +18,7 @@ mod words;
 
 // The buffers and the device's memory are lent from here. The buffer for lines has an even length, as script::Beyond asks; that for option texts is above the
 // 16,384 bytes that a text may have, so that one that is too long is read as too long.
-fn main() {
+fn main(rt: HostRuntime) {
     let mut chunk = io::large_buffer();
     let mut kept = io::large_buffer();
     let mut text = [0u8; 32768];
@@ -33,6 +33,7 @@ fn main() {
     let mut lengths = [0u32; 1024];
     let mut store = [0u8; 2097152];
     input::run(
+        rt.stdin(),
         &mut chunk,
         &mut kept,
         &mut text,

@@ -1,16 +1,17 @@
 // The answers, read line by line to their end.
 use crate::lines;
 use script::{Event, Source, answers};
+use std::rt::Stdin;
 
 pub type Buffer = [u8; 65536];
 
-pub fn run(chunk: &mut Buffer, kept: &mut Buffer, out: &mut Buffer) {
+pub fn run(stdin: Stdin, chunk: &mut Buffer, kept: &mut Buffer, out: &mut Buffer) {
     let mut source = Source::new();
     let mut at = 0;
     let mut number = 0;
     let mut turns = u64::MAX;
     while turns > 0 {
-        let read = source.next(chunk, kept);
+        let read = source.next(stdin, chunk, kept);
         source = read.source;
         let event = read.event;
         number = counted(number, event);

@@ -16,9 +16,9 @@ mod report;
 mod report_line;
 mod scenario;
 
-fn main() {
+fn main(rt: HostRuntime) {
     let mut chunk = io::large_buffer();
     let mut kept = io::large_buffer();
     let mut out = io::large_buffer();
-    input::run(&mut chunk, &mut kept, &mut out);
+    input::run(rt.stdin(), &mut chunk, &mut kept, &mut out);
 }
