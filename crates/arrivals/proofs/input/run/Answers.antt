@@ -1,0 +1,9 @@
+-- The turns are counted down.
+use Rattle.script.specs.Turns.{fewer}
+use borrow.Author.Rules.{rules}
+use Prim.Native.Nat.{◌≤◌}
+use Rattle.arrivals.proofs.input.run.Goals as goal
+
+pub loop-turns-smaller : goal.loop-turns-smaller
+loop-turns-smaller c =
+    rw c.turns_after-turns.ensures (fewer _ c.next-read.result.event c.loop-turns-test.true)

@@ -1,0 +1,9 @@
+-- The loop ends after the first digit.
+use Rattle.std.proofs.Common.{◌-◌, ◌≤◌, rules}
+use Rattle.summary.proofs.digits.whole.Given as goal
+
+abbrev pub invariant-loop-i : goal.invariant-loop-i
+invariant-loop-i l = l.i ≤ 309
+
+abbrev pub decreases-loop-i : goal.decreases-loop-i
+decreases-loop-i l = 309 - l.i

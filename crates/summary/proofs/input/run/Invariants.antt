@@ -1,0 +1,10 @@
+-- The turns are counted down.
+use Rattle.std.proofs.Common.{◌≤◌, rules}
+use Rattle.script.specs.Turns.{fewer}
+use Rattle.summary.proofs.input.run.Given as goal
+
+abbrev pub invariant-loop-turns : goal.invariant-loop-turns
+invariant-loop-turns l = 0 ≤ l.turns
+
+abbrev pub decreases-loop-turns : goal.decreases-loop-turns
+decreases-loop-turns l = l.turns
