@@ -35,9 +35,22 @@ ref false x = record { ref_ptr = (0, 0); now = x }
 
 -- the nine tables, and what follows them
 abbrev lend : {R : Type 0} (find free copies : Bool) → Tables → R → Lent find free copies R
-lend find free copies t r =
-    (ref find t.win, (ref free t.free, (ref find t.dues, (ref find t.seqs, (ref copies t.arrivals,
-    (ref copies t.routes, (ref copies t.copy_ids, (ref copies t.lengths, (ref copies t.store, r)))))))))
+lend find free copies t r = (
+  ref find t.win,
+  (
+    ref free t.free,
+    (
+      ref find t.dues,
+      (
+        ref find t.seqs,
+        (
+          ref copies t.arrivals,
+          (ref copies t.routes, (ref copies t.copy_ids, (ref copies t.lengths, (ref copies t.store, r)))),
+        ),
+      ),
+    ),
+  ),
+)
 
 -- ---- calls
 

@@ -48,9 +48,10 @@ pub overflow_add-i : goal.overflow_add-i
 overflow_add-i c = omega (arith, (entries (goal.at.overflow_add-i c).After-entry_count-n).within, c.loop-i-test.true)
 
 pub loop-i-preserved : goal.loop-i-preserved
-loop-i-preserved c =
-    (search rules,
-    turn _ _ _ _ _ false (entries (goal.at.loop-i-preserved c).After-entry_count-n) c.loop-i-test.true c.loop-i.invariant.1 (rw (← c.contains.ensures) c.if-contains.false))
+loop-i-preserved c = (
+  search rules,
+  turn _ _ _ _ _ false (entries (goal.at.loop-i-preserved c).After-entry_count-n) c.loop-i-test.true c.loop-i.invariant.1 (rw (← c.contains.ensures) c.if-contains.false),
+)
 
 pub offset_bounds-kills-i-then-i-n : goal.offset_bounds-kills-i-then-i-n
 offset_bounds-kills-i-then-i-n c = omega (arith, (entries (goal.at.offset_bounds-kills-i-then-i-n c).After-entry_count-n).within, c.if-i-n.true)
