@@ -2,7 +2,6 @@
 use mathlib.Core.List.{◌++◌}
 use Rattle.args.specs.Laws.Values.{last_value}
 use Rattle.settings.specs.Settings.{setting_of}
-use borrow.Author.Rules.{rules}
 use Rattle.settings.proofs.setting.setting_at.Goals as goal
 
 pub returns-in-Nothing : goal.returns-in-Nothing

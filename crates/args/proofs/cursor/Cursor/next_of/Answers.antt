@@ -1,12 +1,12 @@
 -- The next place of the key is that of the step, or the next one behind it; each step comes nearer to the end of the text.
 use borrow.Author.Rules.{rules}
-use borrow.Author.Tests.{not-true, not-false, eq-eqb, ne_eqb}
+use borrow.Author.Tests.{eq-eqb, ne_eqb}
 use native.Mathlib.Omega.{arith}
 use mathlib.Core.List.{◌++◌}
 use mathlib.Core.Bool.{true, cond}
 use mathlib.Core.Path.{◌≡◌, refl, sym, ap, ◌∙◌}
-use Prim.Native.Nat.{◌≤◌, ◌<◌, ◌-◌}
-use lib.ListN.{length, drop}
+use Prim.Native.Nat.{◌<◌, ◌-◌}
+use lib.ListN.{length}
 use Rattle.values.specs.Laws.Scan.{step, end, same_length}
 use Rattle.values.specs.Bytes.{same}
 use Rattle.args.specs.declared.cursor.Found.TheVariants.{At}
