@@ -3,8 +3,8 @@ use mathlib.Core.Path.{◌≡◌, sym, ap, ◌∙◌}
 use lib.ListN.{drop}
 use Rattle.args.specs.Arguments.{Gathered, gathered, flag_in}
 use Rattle.args.specs.Places.{has_next}
-use Rattle.args.specs.Laws.Turn.{onward, turn_of}
-use Rattle.args.specs.Laws.Steps.{nearer}
+use Rattle.args.proofs.Turn.{onward, turn_of}
+use Rattle.args.proofs.Steps.{nearer}
 use Rattle.args.proofs.scans.has_flag.Goals as goal
 use Rattle.args.proofs.scans.has_flag.Goals.{After-next-step}
 

@@ -3,8 +3,8 @@ use native.Mathlib.Omega.{arith}
 use mathlib.Core.List.{◌++◌}
 use mathlib.Core.Path.{◌≡◌, sym, ap, ◌∙◌}
 use Rattle.args.specs.Places.{last_of}
-use Rattle.args.specs.Laws.Hits.{last_behind, last_behind_lem}
-use Rattle.args.specs.Laws.Values.{is_at, hit_nearer}
+use Rattle.args.proofs.Hits.{last_behind, last_behind_lem}
+use Rattle.args.proofs.Values.{is_at, hit_nearer}
 use Rattle.args.proofs.scans.last_of.Goals as goal
 use Rattle.args.proofs.scans.last_of.Goals.{After-next_of-hit}
 

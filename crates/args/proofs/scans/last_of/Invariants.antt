@@ -4,7 +4,7 @@ use mathlib.Core.Path.{◌≡◌}
 use Prim.Native.Nat.{◌-◌}
 use lib.ListN.{length}
 use Rattle.args.specs.Places.{last_of}
-use Rattle.args.specs.Laws.Hits.{last_from_place}
+use Rattle.args.proofs.Hits.{last_from_place}
 use Rattle.args.proofs.scans.last_of.Given as goal
 
 abbrev pub invariant-loop-last : goal.invariant-loop-last

@@ -3,8 +3,8 @@ use mathlib.Core.Path.{◌≡◌, sym, ap, ◌∙◌}
 use lib.ListN.{drop}
 use Rattle.args.specs.Arguments.{Gathered, gathered}
 use Rattle.args.specs.Places.{has_next}
-use Rattle.args.specs.Laws.Turn.{onward, turn_of}
-use Rattle.args.specs.Laws.Steps.{nearer}
+use Rattle.args.proofs.Turn.{onward, turn_of}
+use Rattle.args.proofs.Steps.{nearer}
 use Rattle.args.proofs.scans.refusal_of.Goals as goal
 use Rattle.args.proofs.scans.refusal_of.Goals.{After-next-step}
 

@@ -1,6 +1,6 @@
 -- What the scan found is the last value of the key.
 use mathlib.Core.List.{◌++◌}
-use Rattle.args.specs.Laws.Values.{last_value}
+use Rattle.args.proofs.Values.{last_value}
 use Rattle.settings.specs.Settings.{setting_of}
 use Rattle.settings.proofs.setting.setting_at.Goals as goal
 

@@ -11,8 +11,8 @@ use Rattle.values.specs.Laws.Scan.{step, end, same_length}
 use Rattle.values.specs.Bytes.{same}
 use Rattle.args.specs.declared.cursor.Found.TheVariants.{At}
 use Rattle.args.specs.Places.{has_next, hit_at, hit_of}
-use Rattle.args.specs.Laws.Steps.{nearer}
-use Rattle.args.specs.Laws.Hits.{hit_turn}
+use Rattle.args.proofs.Steps.{nearer}
+use Rattle.args.proofs.Hits.{hit_turn}
 use Rattle.args.specs.Laws.Keys.{same_append}
 use Rattle.args.proofs.cursor.Cursor.next_of.Goals as goal
 use Rattle.args.proofs.cursor.Cursor.next_of.Goals.{After-after-tail, After-next-step, After-part-key, In-Pair}
