@@ -1,19 +1,16 @@
 -- THE THEOREM over what the functions of crates/queue themselves ensure: for every list of calls on a queue that `create` made, over any lent memory, each
 -- call answered and each table left as the contract of its function says, and each released copy's bytes read as that of `payload` says, the replies are the
 -- plain queue's. The functions are all that are public: `push`, `release`, `drain`, `next_due`, `len`, `is_empty` and `has_memory`.
-use Rattle.std.specs.Prelude.{◌≡◌, refl, Bool, true, false, List, [], ◌∷◌, ℕ, Float, length}
-use Rattle.std.proofs.Common.{sym, ap, ◌∙◌}
+-- Here stands what a run of the functions is; `theorem` and `refused_theorem`, which say it of every run, stand in proofs/Theorem.antt.
+use Rattle.std.specs.Prelude.{◌≡◌, Bool, true, false, List, [], ◌∷◌, ℕ, Float, length}
 use contract.Lifetimes
 use borrow.Fn.World
 use borrow.Fn.Kinds as Kinds'
 use denote.Triple.Clauses
 use Rattle.held.specs.Copies.{copy}
-use Rattle.queue.specs.Tables.{Tables, After, after}
-use Rattle.queue.specs.Refusals.{slot_width, room_of, memory_of}
-use Rattle.queue.specs.Calls.{create_of, push_of, release_of, drain_of, next_due_of, len_of, is_empty_of, payload_of}
+use Rattle.queue.specs.Tables.{Tables}
 use Rattle.queue.specs.declared.queue.ImpairQueue.{ImpairQueue}
 use Rattle.queue.specs.declared.answers.Created.{Created}
-use Rattle.queue.specs.declared.answers.CreateAnswer.TheVariants as created
 use Rattle.queue.specs.declared.answers.Pushed.{Pushed}
 use Rattle.queue.specs.declared.answers.Queued.{Queued}
 use Rattle.queue.specs.declared.answers.Released.{Released}
@@ -48,10 +45,9 @@ use Rattle.queue.proofs.queue.ImpairQueue.has_memory.Kinds as has_memory_kinds
 use Rattle.queue.specs.contracts.payload as payload_fn
 use Rattle.queue.proofs.payload.Reads as payload
 use Rattle.queue.proofs.payload.Kinds as payload_kinds
-use Rattle.queue_laws.specs.Held.{Call, push as push_call, release as release_call, drain as drain_call, next_due as due_call, len as len_call, is_empty as empty_call, has_memory as memory_call, Reply, holds, tells, released, none_due, refused, plain, run}
-use Rattle.queue_laws.specs.Replies.{said_of_push, said_of_release, said_of_drain, said_of_due, said_by_push, said_by_release, said_by_drain, answer_to, answers_to}
+use Rattle.queue_laws.specs.Held.{Call, push as push_call, release as release_call, drain as drain_call, next_due as due_call, len as len_call, is_empty as empty_call, has_memory as memory_call, Reply, holds, tells, released, none_due, refused}
+use Rattle.queue_laws.specs.Replies.{said_of_push, said_of_drain, said_of_due}
 use Rattle.queue_laws.specs.Lent.{lent_tables, left_by_entry, left_by_exit}
-use Rattle.queue_laws.specs.Laws.Runs.{created_agrees, refused_creation_agrees}
 
 -- ---- calls: `Learnt` is what the function's contract ensures of its arguments, its result and the tables at exit
 
@@ -136,43 +132,6 @@ pub data Says (store : List ℕ) : ReleaseAnswer → Reply → Type 1 where
   none : Says store answered.NoneDue none_due
   refuses : {k : ℕ} → Says store (answered.Refused k) (refused k)
 
-creates_is : {cap : ℕ} {t : Tables} {r : Created} → Creates cap t r → r ≡ create_of slot_width cap t
-creates_is (Creates.called κs a r s ec et h) = h ∙ (λ i. create_of slot_width (ec i) (et i))
-
-pushes_is : {q : ImpairQueue} {t : Tables} {due arrival : Float} {route id : ℕ} {duplicated : Bool} {bytes : List ℕ} {r : Pushed} {t' : Tables} → Pushes q t due arrival route id duplicated bytes r t' → after r t' ≡ push_of slot_width q t due arrival route id duplicated bytes
-pushes_is (Pushes.called κs a r s eq et ed ea er ei ep eb h) = h ∙ (λ i. push_of slot_width (eq i) (et i) (ed i) (ea i) (er i) (ei i) (ep i) (eb i))
-
-releases_is : {q : ImpairQueue} {t : Tables} {instant : Float} {r : Released} {t' : Tables} → Releases q t instant r t' → after r t' ≡ release_of slot_width q t instant
-releases_is (Releases.called κs a r s eq et ei h) = h ∙ (λ i. release_of slot_width (eq i) (et i) (ei i))
-
-reads_is : {store : List ℕ} {slot len : ℕ} {bytes : List ℕ} → Reads store slot len bytes → bytes ≡ payload_of slot_width store slot len
-reads_is (Reads.called κs a r s es et el h) = h ∙ (λ i. payload_of slot_width (es i) (et i) (el i))
-
-says_is : {store : List ℕ} {a : ReleaseAnswer} {r : Reply} → Says store a r → r ≡ said_of_release slot_width store a
-says_is (hands_out {c} h) = ap (λ (b : List ℕ). released (copy c.due_ms c.seq c.arrival_ms c.route c.copy_id c.length b)) (reads_is h)
-says_is none = refl
-says_is refuses = refl
-
-drains_is : {q : ImpairQueue} {r : Drained} → Drains q r → r ≡ drain_of q
-drains_is (Drains.called κs a r s eq h) = h ∙ (λ i. drain_of (eq i))
-
-asks_due_is : {q : ImpairQueue} {t : Tables} {r : DueAnswer} → AsksDue q t r → r ≡ next_due_of q t.win t.dues
-asks_due_is (AsksDue.called κs a r s eq ew ed h) = h ∙ (λ i. next_due_of (eq i) (ew i) (ed i))
-
-asks_len_is : {q : ImpairQueue} {n : ℕ} → AsksLen q n → n ≡ len_of q
-asks_len_is (AsksLen.called κs a r s eq h) = h ∙ (λ i. len_of (eq i))
-
-asks_empty_is : {q : ImpairQueue} {b : Bool} → AsksEmpty q b → b ≡ is_empty_of q
-asks_empty_is (AsksEmpty.called κs a r s eq h) = h ∙ (λ i. is_empty_of (eq i))
-
-asks_memory_is : {q : ImpairQueue} {t : Tables} {b : Bool} → AsksMemory q t b → b ≡ memory_of slot_width q.cap t
-unfolding memory_of
-asks_memory_is (AsksMemory.called κs a r s eq el h) =
-    h
-    ∙ (λ i.
-    room_of slot_width (eq i).cap (el i).0 (el i).1.0 (el i).1.1.0 (el i).1.1.1.0 (el i).1.1.1.1.0 (el i).1.1.1.1.1.0
-    (el i).1.1.1.1.1.1.0 (el i).1.1.1.1.1.1.1.0 (el i).1.1.1.1.1.1.1.1)
-
 -- a run of the functions over a list of calls, with its replies: each call begins with what the last one left
 pub data Ran : ImpairQueue → Tables → List Call → List Reply → Type 1 where
   done : {q : ImpairQueue} {t : Tables} → Ran q t [] []
@@ -190,35 +149,3 @@ pub data Ran : ImpairQueue → Tables → List Call → List Reply → Type 1 wh
   asks_len : {q : ImpairQueue} {t : Tables} {n : ℕ} {cs : List Call} {rs : List Reply} → AsksLen q n → Ran q t cs rs → Ran q t (len_call ∷ cs) (holds n ∷ rs)
   asks_empty : {q : ImpairQueue} {t : Tables} {b : Bool} {cs : List Call} {rs : List Reply} → AsksEmpty q b → Ran q t cs rs → Ran q t (empty_call ∷ cs) (tells b ∷ rs)
   asks_memory : {q : ImpairQueue} {t : Tables} {b : Bool} {cs : List Call} {rs : List Reply} → AsksMemory q t b → Ran q t cs rs → Ran q t (memory_call ∷ cs) (tells b ∷ rs)
-
-ran_is : {q : ImpairQueue} {t : Tables} {cs : List Call} {rs : List Reply} → Ran q t cs rs → rs ≡ answers_to slot_width q t cs
-unfolding answers_to answer_to
-ran_is done = refl
-ran_is (pushes {r = r} {cs = cs} c k) =
-    ap (λ (l : List Reply). said_of_push r.answer ∷ l) (ran_is k)
-    ∙ ap (λ (o : After Pushed). (said_by_push o).reply ∷ answers_to slot_width (said_by_push o).queue (said_by_push o).tables cs) (pushes_is c)
-ran_is (releases {t' = t'} {r = r} {cs = cs} c a k) =
-    (λ i. says_is a i ∷ ran_is k i)
-    ∙ ap (λ (o : After Released). (said_by_release slot_width o).reply ∷ answers_to slot_width (said_by_release slot_width o).queue (said_by_release slot_width o).tables cs) (releases_is c)
-ran_is (drains {t = t} {r = r} {cs = cs} c k) =
-    ap (λ (l : List Reply). said_of_drain r.answer ∷ l) (ran_is k)
-    ∙ ap (λ (o : Drained). (said_by_drain t o).reply ∷ answers_to slot_width (said_by_drain t o).queue (said_by_drain t o).tables cs) (drains_is c)
-ran_is (asks_due c k) = λ i. said_of_due (asks_due_is c i) ∷ ran_is k i
-ran_is (asks_len c k) = λ i. holds (asks_len_is c i) ∷ ran_is k i
-ran_is (asks_empty c k) = λ i. tells (asks_empty_is c i) ∷ ran_is k i
-ran_is (asks_memory c k) = λ i. tells (asks_memory_is c i) ∷ ran_is k i
-
--- every run on a queue that was created replies as the plain queue of that capacity does
-pub theorem : {cap : ℕ} {t : Tables} {r : Created} → Creates cap t r → r.answer ≡ created.Created → (cs : List Call) (rs : List Reply) → Ran r.queue t cs rs → rs ≡ run slot_width (plain cap [] 0) cs
-theorem {cap} {t} {r} c made cs rs ran =
-    ran_is ran
-    ∙ ap (λ (x : Created). answers_to slot_width x.queue t cs) (creates_is c)
-    ∙ created_agrees slot_width cap t (ap (λ (x : Created). x.answer) (sym (creates_is c)) ∙ made) cs
-
--- and every run on the queue of a refused creation as the plain queue of capacity 1, over any memory that is long enough for it
-pub refused_theorem : {cap : ℕ} {t : Tables} {r : Created} {n : ℕ} → Creates cap t r → r.answer ≡ created.Refused n → (later : Tables) → memory_of slot_width 1 later ≡ true
-    → (cs : List Call) (rs : List Reply) → Ran r.queue later cs rs → rs ≡ run slot_width (plain 1 [] 0) cs
-refused_theorem {cap} {t} {r} {n} c not_made later long cs rs ran =
-    ran_is ran
-    ∙ ap (λ (x : Created). answers_to slot_width x.queue later cs) (creates_is c)
-    ∙ refused_creation_agrees slot_width cap t later n (ap (λ (x : Created). x.answer) (sym (creates_is c)) ∙ not_made) long cs

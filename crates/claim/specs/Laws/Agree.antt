@@ -15,7 +15,7 @@ use Rattle.queue.specs.Refusals.{slot_width}
 use Rattle.queue.specs.Tables.{Tables}
 use Rattle.queue.specs.declared.queue.ImpairQueue.{ImpairQueue}
 use Rattle.queue_laws.specs.Held.{Plain, plain, step_to as queue_step_to, drained, drain_plain}
-use Rattle.queue_laws.specs.Laws.Agree.{Agree, drain_agrees}
+use Rattle.queue_laws.proofs.Agree.{Agree, drain_agrees}
 use Rattle.queue_laws.specs.Laws.Keeps.{Keeps}
 use Rattle.queue_laws.specs.Replies.{said_by_drain}
 use Rattle.machine.specs.Calls.{Answer, refused}

@@ -22,7 +22,7 @@ use Rattle.queue.specs.declared.answers.PushAnswer.TheVariants as push
 use Rattle.queue.specs.declared.answers.Pushed.{Pushed}
 use Rattle.queue.specs.declared.queue.ImpairQueue.{ImpairQueue}
 use Rattle.queue_laws.specs.Held.{Reply, step_to as queue_step_to, entered, refused, unless_refused, is_full, second_plain, push_plain}
-use Rattle.queue_laws.specs.Laws.Agree.{Agree, push_agrees, held_within}
+use Rattle.queue_laws.proofs.Agree.{Agree, push_agrees, held_within}
 use Rattle.queue_laws.specs.Laws.Keeps.{Keeps}
 use Rattle.queue_laws.specs.Replies.{said_of_push, said_by_push}
 use Rattle.machine.specs.Machine.{Machine}

@@ -16,7 +16,7 @@ use Rattle.accounts.specs.declared.accountant.SendAccountant.{SendAccountant}
 use Rattle.accounts.specs.declared.accountant.Sent.{Sent}
 use Rattle.accounts.specs.declared.answers.Outcome.TheVariants as outcome
 use Rattle.held.specs.Copies.{Copy, without, Leaving, no_copy, one_copy, leaving}
-use Rattle.held.specs.Laws.Due.{leaving_mem}
+use Rattle.held.proofs.Due.{leaving_mem}
 use Rattle.queue.specs.Calls.{release_of as queue_release_of}
 use Rattle.queue.specs.Refusals.{slot_width, memory_of}
 use Rattle.queue.specs.Tables.{Tables, After, after}
@@ -25,7 +25,7 @@ use Rattle.queue.specs.declared.answers.ReleaseAnswer.{ReleaseAnswer}
 use Rattle.queue.specs.declared.answers.ReleaseAnswer.TheVariants as answer
 use Rattle.queue.specs.declared.queue.ImpairQueue.{ImpairQueue}
 use Rattle.queue_laws.specs.Held.{Plain, plain, Step as QueueStep, released as queue_released, none_due as queue_none_due, hand_out as queue_hand_out, release_plain}
-use Rattle.queue_laws.specs.Laws.Agree.{Agree, release_agrees}
+use Rattle.queue_laws.proofs.Agree.{Agree, release_agrees}
 use Rattle.queue_laws.specs.Laws.Creation.{long_memory}
 use Rattle.queue_laws.specs.Laws.Keeps.{Keeps}
 use Rattle.queue_laws.specs.Replies.{copy_of, said_of_release as queue_says, said_by_release}

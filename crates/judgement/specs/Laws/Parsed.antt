@@ -17,7 +17,7 @@ use Rattle.options.specs.declared.config.Config.{Config}
 use Rattle.options.specs.declared.direction.Directed.{Directed}
 use Rattle.options.specs.declared.scalars.LineScalars.{LineScalars}
 use Rattle.settings.specs.Laws.Bursts.{ge_judged}
-use Rattle.settings.specs.Laws.Entries.{kills_judged, windows_judged}
+use Rattle.settings.proofs.JudgedEntries.{kills_judged, windows_judged}
 use Rattle.settings.specs.Laws.Numbers.{probability_judged, time_judged, count_judged, positive_judged, cap_judged}
 use Rattle.values.specs.Bytes.{bytes}
 

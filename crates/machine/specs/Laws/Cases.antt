@@ -11,7 +11,7 @@ use Rattle.accounts.specs.Accountant.{merged_of}
 use Rattle.engine.specs.Changes.{rebound_of}
 use Rattle.engine.specs.Decide.{decide_passed_of}
 use Rattle.held.specs.Copies.{Copy, Mem, Leaving, no_copy, one_copy, leaving}
-use Rattle.held.specs.Laws.Due.{leaving_mem}
+use Rattle.held.proofs.Due.{leaving_mem}
 use Rattle.machine.specs.Machine.{Machine, in_range}
 use Rattle.machine.specs.Calls.{Call, arrive, release, rebind, teardown, report, Refusal, released, none_due, rebound, tore_down, reported, refused}
 use Rattle.machine.specs.Steps.{Step, step_to, unless_refused, unless, with_engine, Entry, entry, enter_copy, enter_copies, tear, follow, arrive_step, leave, hand_out, release_step, rebind_step, teardown_step, report_step, step}

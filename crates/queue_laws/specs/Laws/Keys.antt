@@ -1,5 +1,5 @@
 -- A slot's key changes: every node is good again after the path from its leaf is made anew.
-use Rattle.std.specs.Prelude.{◌≡◌, refl, ◌≢◌, ◌⊎◌, Bool, true, false, ℕ, ◌+◌, ◌/◌, ◌<◌, ◌≤◌, get_or, set, Float}
+use Rattle.std.specs.Prelude.{◌≡◌, refl, ◌≢◌, Bool, true, false, ℕ, ◌+◌, ◌/◌, ◌<◌, ◌≤◌, get_or, set, Float}
 use Rattle.std.proofs.Common.{sym, ◌∙◌, true≢false, arith, get_or-set_same, get_or-set_other, lt-ltb}
 use Rattle.std.proofs.Math.Logic.{⊎_elim}
 use Rattle.std.specs.Float.{nan, inf, fin}

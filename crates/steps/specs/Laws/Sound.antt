@@ -14,7 +14,7 @@ use Rattle.numbers.specs.Laws.Products.{finite_below}
 use Rattle.numbers.specs.Laws.Zero.{NotBelow, not_below_plus, not_below, above_zero, add_clear}
 use Rattle.numbers.specs.Laws.Credit.{Credit}
 use Rattle.draws.specs.declared.rng.Rng.{Rng}
-use Rattle.draws.specs.Laws.Fraction.{draw_plus}
+use Rattle.draws.proofs.Fraction.{draw_plus}
 use Rattle.values.specs.Whole.{is_bounded}
 use Rattle.settings.specs.Judgement.{is_time}
 use Rattle.judgement.specs.Scalars.{is_rate}

@@ -1,5 +1,4 @@
 -- No sum of two counters overflows, since each is below 2 ^ 60; the rest is the contracts of the parts.
-use borrow.Author.Rules.{rules}
 use native.Mathlib.Omega.{arith}
 use Rattle.accounts.specs.Laws.Small.{SmallSends, small_sends, SmallStats, small_stats}
 use Rattle.accounts.specs.Accountant.{with_sends, merged_of}

@@ -1,12 +1,7 @@
 -- What is gathered so far, and the entries that are left, give what the whole list gives.
-use borrow.Author.Rules.{rules}
-use native.Mathlib.Numerals.{add-one}
-use mathlib.Core.List.{List}
-use mathlib.Core.Path.{◌≡◌, refl, sym, ap, ◌∙◌}
-use Prim.Native.Nat.{ℕ, ◌+◌, ◌-◌, ◌≤◌, ◌<◌}
-use lib.Seq.{drop-cons}
-use lib.ListN.{length, get_or, drop, drop_of_length-le}
-use lib.Bits.{bit_or}
+use mathlib.Core.Path.{◌≡◌}
+use Prim.Native.Nat.{◌-◌, ◌≤◌}
+use lib.ListN.{drop}
 use Rattle.accounts.specs.Bits.{bits_from}
 use Rattle.accounts.proofs.counters.counter_bits.Given as goal
 

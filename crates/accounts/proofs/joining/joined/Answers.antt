@@ -1,5 +1,4 @@
 -- The count does not overflow, since both are below 2 ^ 60; the rest is the contracts of the parts.
-use borrow.Author.Rules.{rules}
 use native.Mathlib.Omega.{arith}
 use Rattle.accounts.specs.Laws.Counters.{counter_at, later_counters}
 use Rattle.accounts.specs.Counters.{latency_counters}

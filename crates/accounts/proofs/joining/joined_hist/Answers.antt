@@ -2,10 +2,9 @@
 use borrow.Author.Rules.{rules}
 use native.Mathlib.Omega.{arith}
 use mathlib.Core.Path.{◌≡◌, refl, ◌∙◌}
-use Prim.Native.Nat.{◌-◌, ◌≤◌}
 use lib.ListN.{length, get_or}
 use Rattle.accounts.specs.Laws.Counters.{counter_at}
-use Rattle.accounts.specs.Laws.Sums.{front, front_entry, front_step, front_end}
+use Rattle.accounts.specs.Laws.Sums.{front_entry, front_step, front_end}
 use Rattle.accounts.proofs.joining.joined_hist.Goals as goal
 use Rattle.accounts.proofs.joining.joined_hist.Goals.{Start}
 

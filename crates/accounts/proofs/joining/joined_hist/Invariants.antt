@@ -1,11 +1,7 @@
 -- The entries before the counter are sums already, those behind it are still the target's.
-use borrow.Author.Rules.{rules}
-use native.Mathlib.Omega.{arith}
-use mathlib.Core.Path.{◌≡◌, refl, ◌∙◌}
+use mathlib.Core.Path.{◌≡◌}
 use Prim.Native.Nat.{◌-◌, ◌≤◌}
-use lib.ListN.{length, get_or}
-use Rattle.accounts.specs.Laws.Counters.{counter_at}
-use Rattle.accounts.specs.Laws.Sums.{front, front_entry, front_step, front_end}
+use Rattle.accounts.specs.Laws.Sums.{front}
 use Rattle.accounts.proofs.joining.joined_hist.Given as goal
 
 abbrev pub invariant-loop-i : goal.invariant-loop-i

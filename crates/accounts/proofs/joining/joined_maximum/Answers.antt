@@ -1,6 +1,5 @@
 -- Each return is what the definition chooses by the same test.
 use borrow.Author.Tests.{eq-eqb, ne_eqb}
-use borrow.Author.Rules.{rules}
 use Rattle.accounts.specs.Latency.{joined_maximum_of}
 use Rattle.accounts.proofs.joining.joined_maximum.Goals as goal
 

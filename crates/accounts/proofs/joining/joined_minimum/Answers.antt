@@ -1,6 +1,5 @@
 -- Each return is what the definition chooses by the same tests.
 use borrow.Author.Tests.{eq-eqb, ne_eqb}
-use borrow.Author.Rules.{rules}
 use lib.Ieee.{of_bits, of_int}
 use Rattle.accounts.specs.Latency.{joined_minimum_of}
 use Rattle.accounts.proofs.joining.joined_minimum.Goals as goal

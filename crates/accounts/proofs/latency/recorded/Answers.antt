@@ -1,5 +1,4 @@
 -- The bucket is one of the twelve, and neither the count nor the bucket overflows, since both are below 2 ^ 60.
-use borrow.Author.Rules.{rules}
 use native.Mathlib.Omega.{arith}
 use Prim.Native.Nat.{◌<◌}
 use Rattle.accounts.specs.Laws.Counters.{counter_at, later_counters}

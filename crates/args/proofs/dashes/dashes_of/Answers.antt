@@ -3,10 +3,8 @@ use borrow.Author.Rules.{rules}
 use borrow.Author.Tests.{eq-eqb, ne_eqb}
 use native.Mathlib.Nat.{add-zero}
 use native.Mathlib.Omega.{arith}
-use mathlib.Core.Path.{◌≡◌, sym, ◌∙◌}
-use Prim.Native.Nat.{◌≤◌, ◌-◌, ◌+◌}
-use lib.ListN.{length, drop, length-drop}
-use Rattle.args.specs.Arguments.{dashes}
+use mathlib.Core.Path.{sym, ◌∙◌}
+use lib.ListN.{drop, length-drop}
 use Rattle.args.specs.Laws.Dashes.{dashes_short, step_2}
 use Rattle.args.proofs.dashes.dashes_of.Goals as goal
 

@@ -1,13 +1,8 @@
 -- The pairs passed, and those that are left, are the pairs of the whole key.
-use borrow.Author.Rules.{rules}
-use borrow.Author.Tests.{eq-eqb, ne_eqb}
-use native.Mathlib.Nat.{add-zero}
-use native.Mathlib.Omega.{arith}
-use mathlib.Core.Path.{◌≡◌, sym, ◌∙◌}
+use mathlib.Core.Path.{◌≡◌}
 use Prim.Native.Nat.{◌≤◌, ◌-◌, ◌+◌}
-use lib.ListN.{length, drop, length-drop}
+use lib.ListN.{length, drop}
 use Rattle.args.specs.Arguments.{dashes}
-use Rattle.args.specs.Laws.Dashes.{dashes_short, step_2}
 use Rattle.args.proofs.dashes.dashes_of.Given as goal
 
 abbrev pub invariant-loop-i : goal.invariant-loop-i

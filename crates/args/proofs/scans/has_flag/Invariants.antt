@@ -1,12 +1,8 @@
 -- The flag stands in the text where it stands in what is left behind each pair; the step that is no pair says whether it does.
-use borrow.Author.Rules.{rules}
-use mathlib.Core.Path.{◌≡◌, sym, ap, ◌∙◌}
+use mathlib.Core.Path.{◌≡◌}
 use Prim.Native.Nat.{◌-◌}
 use lib.ListN.{length, drop}
-use Rattle.args.specs.Arguments.{Gathered, gathered, flag_in}
-use Rattle.args.specs.Places.{has_next}
-use Rattle.args.specs.Laws.Turn.{onward, turn_of}
-use Rattle.args.specs.Laws.Steps.{nearer}
+use Rattle.args.specs.Arguments.{gathered, flag_in}
 use Rattle.args.proofs.scans.has_flag.Given as goal
 
 abbrev pub invariant-loop : goal.invariant-loop

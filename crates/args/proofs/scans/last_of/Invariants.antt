@@ -1,13 +1,10 @@
 -- The last place is that found so far, or the last one behind it; each hit comes nearer to the end of the text.
-use borrow.Author.Rules.{rules}
-use native.Mathlib.Omega.{arith}
 use mathlib.Core.List.{◌++◌}
-use mathlib.Core.Path.{◌≡◌, sym, ap, ◌∙◌}
+use mathlib.Core.Path.{◌≡◌}
 use Prim.Native.Nat.{◌-◌}
 use lib.ListN.{length}
 use Rattle.args.specs.Places.{last_of}
-use Rattle.args.specs.Laws.Hits.{last_from_place, last_behind, last_behind_lem}
-use Rattle.args.specs.Laws.Values.{is_at, hit_nearer}
+use Rattle.args.proofs.Hits.{last_from_place}
 use Rattle.args.proofs.scans.last_of.Given as goal
 
 abbrev pub invariant-loop-last : goal.invariant-loop-last

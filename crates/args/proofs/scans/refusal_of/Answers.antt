@@ -1,12 +1,10 @@
 -- The refusal of the text is that of what is left behind each step, and the step that does not go on says it.
-use borrow.Author.Rules.{rules}
 use mathlib.Core.Path.{◌≡◌, sym, ap, ◌∙◌}
-use Prim.Native.Nat.{◌-◌}
-use lib.ListN.{length, drop}
+use lib.ListN.{drop}
 use Rattle.args.specs.Arguments.{Gathered, gathered}
 use Rattle.args.specs.Places.{has_next}
-use Rattle.args.specs.Laws.Turn.{onward, turn_of}
-use Rattle.args.specs.Laws.Steps.{nearer}
+use Rattle.args.proofs.Turn.{onward, turn_of}
+use Rattle.args.proofs.Steps.{nearer}
 use Rattle.args.proofs.scans.refusal_of.Goals as goal
 use Rattle.args.proofs.scans.refusal_of.Goals.{After-next-step}
 

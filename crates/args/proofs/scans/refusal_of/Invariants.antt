@@ -1,12 +1,8 @@
 -- The refusal of the text is that of what is left behind each step, and the step that does not go on says it.
-use borrow.Author.Rules.{rules}
-use mathlib.Core.Path.{◌≡◌, sym, ap, ◌∙◌}
+use mathlib.Core.Path.{◌≡◌}
 use Prim.Native.Nat.{◌-◌}
 use lib.ListN.{length, drop}
-use Rattle.args.specs.Arguments.{Gathered, gathered}
-use Rattle.args.specs.Places.{has_next}
-use Rattle.args.specs.Laws.Turn.{onward, turn_of}
-use Rattle.args.specs.Laws.Steps.{nearer}
+use Rattle.args.specs.Arguments.{gathered}
 use Rattle.args.proofs.scans.refusal_of.Given as goal
 
 abbrev pub invariant-loop-n : goal.invariant-loop-n

@@ -1,5 +1,5 @@
 -- The two sums and the product of the salt are one sum modulo 2 ^ 64, and the rest is the finalizer as it stands.
-use Rattle.std.proofs.Common.{◌≡◌, ℕ, ◌+◌, ◌*◌, ◌%◌, ◌^◌, sym, ap, rules}
+use Rattle.std.proofs.Common.{◌≡◌, ℕ, ◌+◌, ◌*◌, ◌%◌, ◌^◌, sym, ap}
 use native.Mathlib.Nat.{add-mod}
 use Rattle.numbers.specs.Wrapping.{wrapping_mul_of}
 use Rattle.draws.specs.Shifts.{golden_gamma}

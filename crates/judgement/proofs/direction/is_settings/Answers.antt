@@ -1,6 +1,5 @@
 -- The judgement of each part.
 use Rattle.judgement.specs.Settings.{is_settings_of}
-use borrow.Author.Rules.{rules}
 use Rattle.judgement.proofs.direction.is_settings.Goals as goal
 
 pub returns : goal.returns

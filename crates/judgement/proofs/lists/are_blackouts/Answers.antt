@@ -1,6 +1,5 @@
 -- Too many entries, none, or the loop.
 use borrow.Author.Tests.{lt-leb, le-leb}
-use borrow.Author.Rules.{rules}
 use Rattle.judgement.proofs.lists.are_blackouts.Goals as goal
 
 pub returns-then-count-gt-MAX_ENTRIES : goal.returns-then-count-gt-MAX_ENTRIES

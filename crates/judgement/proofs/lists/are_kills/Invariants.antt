@@ -1,17 +1,8 @@
 -- What is left of the counted kills decides.
-use borrow.Author.Rules.{rules}
-use borrow.Author.Tests.{not-true, not-false}
-use native.Mathlib.Omega.{arith}
-use mathlib.Core.Path.{◌≡◌, sym, ap, ◌∙◌}
-use mathlib.Core.Bool.{◌&&◌}
-use Prim.Native.Nat.{◌+◌, ◌-◌, ◌≤◌}
-use lib.ListN.{length, take, drop}
-use Rattle.numbers.specs.Limits.{max_entries}
-use Rattle.numbers.specs.Laws.Counted.{counted_step, counted_end}
+use mathlib.Core.Path.{◌≡◌}
+use Prim.Native.Nat.{◌-◌, ◌≤◌}
+use lib.ListN.{take, drop}
 use Rattle.settings.specs.Judgement.{is_kill, all_of}
-use Rattle.settings.specs.Windows.{no_window}
-use Rattle.settings.specs.declared.kill.KillStyle.TheVariants.{Rst}
-use Rattle.settings.specs.declared.kill.TcpKill.{TcpKill}
 use Rattle.judgement.proofs.lists.are_kills.Given as goal
 
 abbrev pub invariant-loop-i : goal.invariant-loop-i

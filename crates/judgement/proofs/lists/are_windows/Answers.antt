@@ -1,10 +1,9 @@
 -- What is left of the counted windows decides.
 use borrow.Author.Rules.{rules}
-use borrow.Author.Tests.{not-true, not-false}
 use native.Mathlib.Omega.{arith}
 use mathlib.Core.Path.{◌≡◌, sym, ap, ◌∙◌}
 use mathlib.Core.Bool.{◌&&◌}
-use Prim.Native.Nat.{◌+◌, ◌-◌, ◌≤◌}
+use Prim.Native.Nat.{◌+◌}
 use lib.ListN.{length, take, drop}
 use Rattle.numbers.specs.Limits.{max_entries}
 use Rattle.numbers.specs.Laws.Counted.{counted_step, counted_end}

@@ -1,6 +1,5 @@
 -- Each setting by its own test, in the order of the definition.
 use Rattle.judgement.specs.Scalars.{are_scalars_of}
-use borrow.Author.Rules.{rules}
 use Rattle.judgement.proofs.scalars.are_scalars.Goals as goal
 
 pub returns : goal.returns

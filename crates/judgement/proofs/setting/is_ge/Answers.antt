@@ -1,5 +1,4 @@
 -- Three probabilities, where there are any.
-use borrow.Author.Rules.{rules}
 use Rattle.judgement.proofs.setting.is_ge.Goals as goal
 
 pub returns-in-Absent : goal.returns-in-Absent

@@ -1,5 +1,4 @@
 -- Not 0, and at most 2 ^ 53.
-use borrow.Author.Rules.{rules}
 use Rattle.judgement.proofs.setting.is_positive.Goals as goal
 
 pub returns : goal.returns

@@ -1,5 +1,4 @@
 -- Two cases.
-use borrow.Author.Rules.{rules}
 use Rattle.judgement.proofs.setting.is_rate.Goals as goal
 
 pub returns-in-Absent : goal.returns-in-Absent

@@ -1,5 +1,4 @@
 -- Where the end is bounded, so is a start before it.
-use borrow.Author.Rules.{rules}
 use borrow.Author.Tests.{leb-true, lt-ltb, le-ltb, le-leb}
 use native.Mathlib.Omega.{arith}
 use mathlib.Core.Path.{◌≡◌, refl, sym}

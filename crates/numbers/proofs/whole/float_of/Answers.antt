@@ -1,5 +1,5 @@
 -- Up to 2 ^ 53 the conversion is exact, above it the library's is the nearest.
-use Rattle.std.proofs.Common.{arith, le→leb, rules}
+use Rattle.std.proofs.Common.{arith, le→leb}
 use lib.Ieee.{in_float}
 use Rattle.numbers.proofs.whole.float_of.Goals as goal
 

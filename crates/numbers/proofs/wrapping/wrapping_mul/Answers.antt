@@ -1,5 +1,5 @@
 -- Each product of halves fits 64 bits, and the whole is the law of halves at 32 bits.
-use Rattle.std.proofs.Common.{arith, rules}
+use Rattle.std.proofs.Common.{arith}
 use Rattle.numbers.proofs.Halves.{half_product, halves}
 use Rattle.numbers.proofs.wrapping.wrapping_mul.Goals as goal
 

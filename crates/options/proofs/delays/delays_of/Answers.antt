@@ -8,7 +8,6 @@ use Rattle.settings.specs.declared.setting.Kind.TheVariants.{Probability, Millis
 use Rattle.settings.specs.declared.setting.Setting.{Setting}
 use Rattle.settings.specs.Settings.{refusal_of, float_of, earlier}
 use Rattle.options.specs.Directions.{number_at, undelayed_of, delays_of}
-use borrow.Author.Rules.{rules}
 use Rattle.options.proofs.delays.delays_of.Goals as goal
 
 -- the settings and the refusals, piece by piece

@@ -1,6 +1,5 @@
 -- The groups' refusals are joined in order.
 use Rattle.options.specs.Directions.{combined_of}
-use borrow.Author.Rules.{rules}
 use Rattle.options.proofs.direction.combined.Goals as goal
 
 pub returns : goal.returns

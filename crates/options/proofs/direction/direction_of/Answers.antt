@@ -1,6 +1,5 @@
 -- The four groups of a direction, one after the other.
 use Rattle.options.specs.Directions.{direction_of}
-use borrow.Author.Rules.{rules}
 use Rattle.options.proofs.direction.direction_of.Goals as goal
 
 pub returns : goal.returns

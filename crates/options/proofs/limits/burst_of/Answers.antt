@@ -1,7 +1,6 @@
 -- Only a burst of 0 under a rate is changed.
 use borrow.Author.Tests.{eq-eqb, ne_eqb}
 use Rattle.options.specs.Directions.{burst_of}
-use borrow.Author.Rules.{rules}
 use Rattle.options.proofs.limits.burst_of.Goals as goal
 
 pub returns-in-Absent : goal.returns-in-Absent

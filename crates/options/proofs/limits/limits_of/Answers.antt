@@ -10,7 +10,6 @@ use Rattle.settings.specs.declared.setting.Kind.TheVariants.{Probability, Count,
 use Rattle.settings.specs.declared.setting.Setting.{Setting}
 use Rattle.settings.specs.Settings.{refusal_of, float_of, whole_of, earlier}
 use Rattle.options.specs.Directions.{number_at, rate_of, burst_of, mtu_of, limits_of}
-use borrow.Author.Rules.{rules}
 use Rattle.options.proofs.limits.limits_of.Goals as goal
 
 -- the settings and the refusals, piece by piece

@@ -1,6 +1,5 @@
 -- Only a whole number is present.
 use Rattle.options.specs.Directions.{rate_of}
-use borrow.Author.Rules.{rules}
 use Rattle.options.proofs.limits.rate_of.Goals as goal
 
 pub returns-in-Absent : goal.returns-in-Absent

@@ -1,6 +1,5 @@
 -- Each setting is its definition, and the refusals are joined in the source's order.
 use Rattle.options.specs.Directions.{losses_of}
-use borrow.Author.Rules.{rules}
 use Rattle.options.proofs.losses.losses_of.Goals as goal
 
 pub returns : goal.returns

@@ -1,8 +1,7 @@
 -- What the scan found is the last value of the key.
-use Rattle.args.specs.Laws.Values.{last_value}
+use Rattle.args.proofs.Values.{last_value}
 use Rattle.values.specs.Bytes.{bytes}
 use Rattle.options.specs.Modes.{mode_of}
-use borrow.Author.Rules.{rules}
 use Rattle.options.proofs.mode.mode_at.Goals as goal
 
 pub returns-in-Nothing : goal.returns-in-Nothing

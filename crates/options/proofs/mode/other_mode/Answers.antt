@@ -2,7 +2,6 @@
 use lib.Ieee.{of_int, of_bits}
 use borrow.Author.Tests.{le-ltb, lt-ltb}
 use Rattle.options.specs.Modes.{other_mode_of}
-use borrow.Author.Rules.{rules}
 use Rattle.options.proofs.mode.other_mode.Goals as goal
 
 pub returns-then-config-gt0 : goal.returns-then-config-gt0

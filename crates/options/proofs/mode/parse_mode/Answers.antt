@@ -1,7 +1,6 @@
 -- The two words are compared in order.
 use mathlib.Core.Path.{sym, ◌∙◌}
 use Rattle.options.specs.Modes.{parse_mode_of}
-use borrow.Author.Rules.{rules}
 use Rattle.options.proofs.mode.parse_mode.Goals as goal
 
 pub returns-then-is_same : goal.returns-then-is_same

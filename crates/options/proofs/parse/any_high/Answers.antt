@@ -1,11 +1,8 @@
 -- No byte gone by is above 127, so the rest decides.
 use borrow.Author.Rules.{rules}
 use borrow.Author.Tests.{lt-ltb, le-ltb}
-use mathlib.Core.Path.{◌≡◌, sym, ◌∙◌}
-use Prim.Native.Nat.{◌-◌, ◌≤◌}
-use lib.ListN.{length, drop}
+use mathlib.Core.Path.{sym, ◌∙◌}
 use Rattle.values.specs.Laws.Scan.{step, end}
-use Rattle.options.specs.Parse.{any_high}
 use Rattle.options.proofs.parse.any_high.Goals as goal
 
 pub returns-then-s-i-gt127 : goal.returns-then-s-i-gt127

@@ -1,10 +1,7 @@
 -- No byte gone by is above 127, so the rest decides.
-use borrow.Author.Rules.{rules}
-use borrow.Author.Tests.{lt-ltb, le-ltb}
-use mathlib.Core.Path.{◌≡◌, sym, ◌∙◌}
+use mathlib.Core.Path.{◌≡◌}
 use Prim.Native.Nat.{◌-◌, ◌≤◌}
 use lib.ListN.{length, drop}
-use Rattle.values.specs.Laws.Scan.{step, end}
 use Rattle.options.specs.Parse.{any_high}
 use Rattle.options.proofs.parse.any_high.Given as goal
 

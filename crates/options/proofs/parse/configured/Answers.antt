@@ -7,7 +7,6 @@ use Rattle.options.specs.declared.scalars.LineScalars.{LineScalars}
 use Rattle.options.specs.Modes.{other_mode_of}
 use Rattle.options.specs.Parse.{configured_of, first_refusal}
 use Rattle.settings.specs.Settings.{earlier}
-use borrow.Author.Rules.{rules}
 use Rattle.options.proofs.parse.configured.Goals as goal
 
 -- the first refusal, piece by piece

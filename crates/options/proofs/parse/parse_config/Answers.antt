@@ -1,7 +1,6 @@
 -- The bytes and the argument list first, then all settings.
 use borrow.Author.Tests.{eq-eqb, ne_eqb}
 use Rattle.options.specs.Parse.{parse_of}
-use borrow.Author.Rules.{rules}
 use Rattle.options.proofs.parse.parse_config.Goals as goal
 
 pub returns-then-refusal-ne0 : goal.returns-then-refusal-ne0

@@ -1,6 +1,5 @@
 -- The settings are the default ones.
 use Rattle.options.specs.Parse.{refused_with}
-use borrow.Author.Rules.{rules}
 use Rattle.options.proofs.parse.refused_with.Goals as goal
 
 pub returns : goal.returns

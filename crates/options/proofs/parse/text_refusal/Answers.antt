@@ -2,7 +2,6 @@
 use borrow.Author.Tests.{le-ltb, lt-ltb}
 use mathlib.Core.Path.{sym, ◌∙◌}
 use Rattle.options.specs.Parse.{text_refusal_of}
-use borrow.Author.Rules.{rules}
 use Rattle.options.proofs.parse.text_refusal.Goals as goal
 
 pub returns-then-n-gt-MOST_BYTES : goal.returns-then-n-gt-MOST_BYTES

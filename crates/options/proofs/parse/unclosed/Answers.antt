@@ -1,7 +1,6 @@
 -- The last byte decides where there is one.
 use borrow.Author.Tests.{le-ltb, lt-ltb}
 use Rattle.options.specs.Parse.{unclosed_of}
-use borrow.Author.Rules.{rules}
 use Rattle.options.proofs.parse.unclosed.Goals as goal
 
 pub returns-then-n-gt0 : goal.returns-then-n-gt0

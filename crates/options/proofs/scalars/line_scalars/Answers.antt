@@ -13,7 +13,6 @@ use Rattle.settings.specs.Settings.{setting_of, refusal_of, whole_of, earlier}
 use Rattle.options.specs.Modes.{mode_of}
 use Rattle.options.specs.Config.{default_config}
 use Rattle.options.specs.Scalars.{verbose_of, line_scalars_of}
-use borrow.Author.Rules.{rules}
 use Rattle.options.proofs.scalars.line_scalars.Goals as goal
 
 -- the settings and the refusals, piece by piece

@@ -1,7 +1,6 @@
 -- The four words are compared in order.
 use mathlib.Core.Path.{sym, ◌∙◌}
 use Rattle.options.specs.Scalars.{yes_of}
-use borrow.Author.Rules.{rules}
 use Rattle.options.proofs.scalars.says_yes.Goals as goal
 
 pub returns-then-is_same : goal.returns-then-is_same

@@ -1,8 +1,7 @@
 -- The bare flag first, then what the scan found.
-use Rattle.args.specs.Laws.Values.{last_value}
+use Rattle.args.proofs.Values.{last_value}
 use Rattle.values.specs.Bytes.{bytes}
 use Rattle.options.specs.Scalars.{verbose_of}
-use borrow.Author.Rules.{rules}
 use Rattle.options.proofs.scalars.verbose_at.Goals as goal
 
 pub returns-then-has_flag : goal.returns-then-has_flag

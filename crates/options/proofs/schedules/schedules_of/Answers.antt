@@ -1,6 +1,5 @@
 -- Each list and the number are their definitions, and the refusals are joined in the source's order.
 use Rattle.options.specs.Directions.{schedules_of}
-use borrow.Author.Rules.{rules}
 use Rattle.options.proofs.schedules.schedules_of.Goals as goal
 
 pub returns : goal.returns

@@ -1,6 +1,5 @@
 -- The queue by its contract.
 use Rattle.queue.specs.declared.answers.CreateAnswer.TheVariants as create
-use borrow.Author.Rules.{rules}
 use Rattle.queue.proofs.creation.not_created.Goals as goal
 
 pub returns : goal.returns

@@ -1,7 +1,6 @@
 -- By whether the last copy entered.
 use Rattle.queue.specs.Calls.{told_of}
 use borrow.Author.Tests.{not-true, not-false}
-use borrow.Author.Rules.{rules}
 use Rattle.queue.proofs.push.told.Goals as goal
 
 pub returns-then-not-last : goal.returns-then-not-last

@@ -1,5 +1,4 @@
 -- The tests in their order.
-use borrow.Author.Tests.{not-true, not-false}
 use Rattle.numbers.specs.Checks.{first_failing}
 use Rattle.queue.proofs.refusal.refusal.Goals as goal
 

@@ -1,5 +1,4 @@
 -- Seven minima by their contracts.
-use borrow.Author.Rules.{rules}
 use Rattle.queue.proofs.refusal.shortest.Goals as goal
 
 pub returns : goal.returns

@@ -1,5 +1,4 @@
 -- Field by field.
-use borrow.Author.Rules.{rules}
 use Rattle.queue.proofs.release.queued.Goals as goal
 
 pub returns : goal.returns

@@ -1,6 +1,5 @@
 -- Table by table.
 use Rattle.queue.specs.Tables.{rows, written_of}
-use borrow.Author.Rules.{rules}
 use Rattle.queue.proofs.row.write.Goals as goal
 
 pub returns : goal.returns

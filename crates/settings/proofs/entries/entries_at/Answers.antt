@@ -1,13 +1,12 @@
 -- What is gathered so far, with the values that are left, is what all values give.
-use borrow.Author.Rules.{rules}
 use native.Mathlib.Omega.{arith}
 use mathlib.Core.Path.{◌≡◌, sym, ap, ◌∙◌}
 use mathlib.Core.Bool.{true}
 use mathlib.Core.List.{List, ◌++◌}
-use Prim.Native.Nat.{ℕ, ◌-◌}
-use lib.ListN.{length, drop}
+use Prim.Native.Nat.{ℕ}
+use lib.ListN.{drop}
 use Rattle.args.specs.Arguments.{values_of}
-use Rattle.args.specs.Laws.Values.{Hits, hits, hit_on, is_at}
+use Rattle.args.proofs.Values.{Hits, hits, hit_on, is_at}
 use Rattle.settings.specs.Lists.{no_entries, entries_from, entries_of}
 use Rattle.settings.proofs.entries.entries_at.Goals as goal
 use Rattle.settings.proofs.entries.entries_at.Goals.{After-next_of-hit}

@@ -1,14 +1,10 @@
 -- What is gathered so far, with the values that are left, is what all values give.
-use borrow.Author.Rules.{rules}
-use native.Mathlib.Omega.{arith}
-use mathlib.Core.Path.{◌≡◌, sym, ap, ◌∙◌}
-use mathlib.Core.Bool.{true}
-use mathlib.Core.List.{List, ◌++◌}
-use Prim.Native.Nat.{ℕ, ◌-◌}
+use mathlib.Core.Path.{◌≡◌}
+use mathlib.Core.List.{◌++◌}
+use Prim.Native.Nat.{◌-◌}
 use lib.ListN.{length, drop}
 use Rattle.args.specs.Arguments.{values_of}
-use Rattle.args.specs.Laws.Values.{Hits, hits, hit_on, is_at}
-use Rattle.settings.specs.Lists.{no_entries, entries_from, entries_of}
+use Rattle.settings.specs.Lists.{no_entries, entries_from}
 use Rattle.settings.proofs.entries.entries_at.Given as goal
 
 abbrev pub invariant-loop-entries : goal.invariant-loop-entries

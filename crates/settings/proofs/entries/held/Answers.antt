@@ -1,6 +1,5 @@
 -- A refusal stays, a window gets the style that holds.
 use Rattle.settings.specs.Lists.{held_of}
-use borrow.Author.Rules.{rules}
 use Rattle.settings.proofs.entries.held.Goals as goal
 
 pub returns-in-Refused : goal.returns-in-Refused

@@ -1,6 +1,5 @@
 -- The list is filled with the kill of an empty window.
 use Rattle.settings.specs.Lists.{no_entries}
-use borrow.Author.Rules.{rules}
 use Rattle.settings.proofs.entries.no_entries.Goals as goal
 
 pub returns : goal.returns

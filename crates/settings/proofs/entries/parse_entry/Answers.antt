@@ -1,6 +1,5 @@
 -- Each list has its own reading.
 use Rattle.settings.specs.Lists.{parse_entry_of}
-use borrow.Author.Rules.{rules}
 use Rattle.settings.proofs.entries.parse_entry.Goals as goal
 
 pub returns-in-Blackout : goal.returns-in-Blackout

@@ -2,12 +2,11 @@
 use borrow.Author.Rules.{rules}
 use native.Mathlib.Omega.{arith}
 use mathlib.Core.Path.{sym, ap, ◌∙◌, ◌≡◌}
-use lib.ListN.{length-set, length, take}
+use lib.ListN.{length-set, length}
 use lib.Seq.{take_all}
 use Rattle.numbers.specs.Limits.{max_entries}
 use Rattle.settings.specs.Laws.Lists.{copied}
 use mathlib.Core.List.{map}
-use Prim.Native.Nat.{◌-◌, ◌≤◌}
 use Rattle.settings.specs.Lists.{window_of}
 use Rattle.settings.proofs.entries.windows_of.Goals as goal
 

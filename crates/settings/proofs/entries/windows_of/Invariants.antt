@@ -1,11 +1,7 @@
 -- The windows gone by are those of the kills gone by.
-use borrow.Author.Rules.{rules}
-use native.Mathlib.Omega.{arith}
-use mathlib.Core.Path.{sym, ap, ◌∙◌, ◌≡◌}
-use lib.ListN.{length-set, length, take}
-use lib.Seq.{take_all}
+use mathlib.Core.Path.{◌≡◌}
+use lib.ListN.{length, take}
 use Rattle.numbers.specs.Limits.{max_entries}
-use Rattle.settings.specs.Laws.Lists.{copied}
 use mathlib.Core.List.{map}
 use Prim.Native.Nat.{◌-◌, ◌≤◌}
 use Rattle.settings.specs.Lists.{window_of}

@@ -1,7 +1,6 @@
 -- A first refusal stays, else the entry is read, and counted where there is room.
 use borrow.Author.Tests.{eq-eqb, ne_eqb, lt-ltb, le-ltb}
 use Rattle.settings.specs.Lists.{with_entry}
-use borrow.Author.Rules.{rules}
 use Rattle.settings.proofs.entries.with_entry.Goals as goal
 
 pub returns-then-refusal-ne0 : goal.returns-then-refusal-ne0

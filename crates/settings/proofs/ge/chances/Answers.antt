@@ -1,7 +1,6 @@
 -- The first of the three refusals, then the tests for zero.
 use lib.Ieee.{of_int, of_bits}
 use Rattle.settings.specs.Bursts.{chances_of}
-use borrow.Author.Rules.{rules}
 use Rattle.settings.proofs.ge.chances.Goals as goal
 
 pub returns-then-p : goal.returns-then-p

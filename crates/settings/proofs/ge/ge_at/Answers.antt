@@ -1,8 +1,7 @@
 -- What the scan found is the last value of the key.
 use mathlib.Core.List.{◌++◌}
-use Rattle.args.specs.Laws.Values.{last_value}
+use Rattle.args.proofs.Values.{last_value}
 use Rattle.settings.specs.Bursts.{ge_of}
-use borrow.Author.Rules.{rules}
 use Rattle.settings.proofs.ge.ge_at.Goals as goal
 
 pub returns-in-Nothing : goal.returns-in-Nothing

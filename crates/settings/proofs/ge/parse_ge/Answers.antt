@@ -2,7 +2,6 @@
 use Rattle.numbers.specs.Refusals.{refused_ge_parts}
 use Rattle.values.specs.Laws.Parts.{three_told}
 use Rattle.settings.specs.Bursts.{no_ge, parse_ge_of, ge_parts}
-use borrow.Author.Rules.{rules}
 use Rattle.settings.proofs.ge.parse_ge.Goals as goal
 
 pub returns-in-Other : goal.returns-in-Other

@@ -1,5 +1,4 @@
 -- The window is the empty one.
-use borrow.Author.Rules.{rules}
 use Rattle.settings.proofs.kill.no_kill.Goals as goal
 
 pub returns : goal.returns

@@ -3,7 +3,6 @@ use Rattle.numbers.specs.Refusals.{refused_kill_parts}
 use Rattle.values.specs.Laws.Parts.{three_told}
 use Rattle.settings.specs.declared.kill.KillRead.{KillRead}
 use Rattle.settings.specs.Windows.{parse_kill_of, kill_parts}
-use borrow.Author.Rules.{rules}
 use Rattle.settings.proofs.kill.parse_kill.Goals as goal
 
 pub returns-in-Other : goal.returns-in-Other

@@ -1,7 +1,6 @@
 -- The two words are compared in order.
 use mathlib.Core.Path.{sym, ◌∙◌}
 use Rattle.settings.specs.Windows.{parse_style_of}
-use borrow.Author.Rules.{rules}
 use Rattle.settings.proofs.kill.parse_style.Goals as goal
 
 pub returns-then-is_same : goal.returns-then-is_same

@@ -1,6 +1,5 @@
 -- The window's refusal comes before the style's.
 use Rattle.settings.specs.Windows.{styled_of}
-use borrow.Author.Rules.{rules}
 use Rattle.settings.proofs.kill.styled.Goals as goal
 
 pub returns-in-Refused : goal.returns-in-Refused

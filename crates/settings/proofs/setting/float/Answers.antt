@@ -1,7 +1,6 @@
 -- Only a decimal has a value of its own.
 use lib.Ieee.{of_int, of_bits}
 use Rattle.settings.specs.Settings.{float_of}
-use borrow.Author.Rules.{rules}
 use Rattle.settings.proofs.setting.float.Goals as goal
 
 pub returns-in-Absent : goal.returns-in-Absent

@@ -1,6 +1,5 @@
 -- A number and a refusal each keep what they hold.
 use Rattle.settings.specs.Settings.{of_decimal}
-use borrow.Author.Rules.{rules}
 use Rattle.settings.proofs.setting.of_decimal.Goals as goal
 
 pub returns-in-Number : goal.returns-in-Number

@@ -1,6 +1,5 @@
 -- A number and a refusal each keep what they hold.
 use Rattle.settings.specs.Settings.{of_whole}
-use borrow.Author.Rules.{rules}
 use Rattle.settings.proofs.setting.of_whole.Goals as goal
 
 pub returns-in-Number : goal.returns-in-Number

@@ -1,6 +1,5 @@
 -- Each kind has its own reading.
 use Rattle.settings.specs.Settings.{parse_setting_of}
-use borrow.Author.Rules.{rules}
 use Rattle.settings.proofs.setting.parse_setting.Goals as goal
 
 pub returns-in-Probability : goal.returns-in-Probability

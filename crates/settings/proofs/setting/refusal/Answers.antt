@@ -1,6 +1,5 @@
 -- Only a refusal has a number.
 use Rattle.settings.specs.Settings.{refusal_of}
-use borrow.Author.Rules.{rules}
 use Rattle.settings.proofs.setting.refusal.Goals as goal
 
 pub returns-in-Absent : goal.returns-in-Absent

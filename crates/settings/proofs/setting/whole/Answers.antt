@@ -1,6 +1,5 @@
 -- Only a whole number has a value of its own.
 use Rattle.settings.specs.Settings.{whole_of}
-use borrow.Author.Rules.{rules}
 use Rattle.settings.proofs.setting.whole.Goals as goal
 
 pub returns-in-Absent : goal.returns-in-Absent

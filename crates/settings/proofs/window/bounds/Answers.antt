@@ -1,7 +1,6 @@
 -- The start's refusal, the end's, then their order.
 use borrow.Author.Tests.{le-leb, lt-leb}
 use Rattle.settings.specs.Windows.{bounds_of}
-use borrow.Author.Rules.{rules}
 use Rattle.settings.proofs.window.bounds.Goals as goal
 
 pub returns-in-Refused : goal.returns-in-Refused

@@ -3,7 +3,6 @@ use Rattle.numbers.specs.Whole.{whole}
 use lib.ListN.{get_or-eq_default}
 use mathlib.Core.Path.{sym}
 use lib.Ieee.{nan, of_bits, of_fields, of_int}
-use borrow.Author.Rules.{rules}
 use Rattle.tables.proofs.get.get_f64.Goals as goal
 
 pub returns-then-i-table : goal.returns-then-i-table

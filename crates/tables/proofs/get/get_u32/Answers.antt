@@ -1,6 +1,5 @@
 use lib.ListN.{get_or-eq_default}
 use mathlib.Core.Path.{sym}
-use borrow.Author.Rules.{rules}
 use Rattle.tables.proofs.get.get_u32.Goals as goal
 
 pub returns-else-i-table : goal.returns-else-i-table

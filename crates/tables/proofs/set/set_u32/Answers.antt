@@ -1,6 +1,5 @@
 use lib.Seq.{set_out}
 use mathlib.Core.Path.{sym}
-use borrow.Author.Rules.{rules}
 use Rattle.tables.proofs.set.set_u32.Goals as goal
 
 pub returns-else-i-table : goal.returns-else-i-table

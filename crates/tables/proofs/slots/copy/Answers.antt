@@ -2,7 +2,7 @@ use Rattle.tables.proofs.Steps.{copy_turn}
 use lib.Seq.{paste, paste-zero}
 use lib.ListN.{length, length-set}
 use native.Mathlib.Omega.{arith}
-use Prim.Native.Nat.{ℕ, ◌≤◌, ◌-◌}
+use Prim.Native.Nat.{ℕ}
 use mathlib.Core.Path.{◌≡◌, refl, ap, ◌∙◌}
 use Rattle.tables.proofs.slots.copy.Goals as goal
 

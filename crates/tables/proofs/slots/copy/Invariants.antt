@@ -1,9 +1,7 @@
-use Rattle.tables.proofs.Steps.{copy_turn}
-use lib.Seq.{paste, paste-zero}
-use lib.ListN.{length, length-set}
-use native.Mathlib.Omega.{arith}
-use Prim.Native.Nat.{ℕ, ◌≤◌, ◌-◌}
-use mathlib.Core.Path.{◌≡◌, refl, ap, ◌∙◌}
+use lib.Seq.{paste}
+use lib.ListN.{length}
+use Prim.Native.Nat.{◌≤◌, ◌-◌}
+use mathlib.Core.Path.{◌≡◌}
 use Rattle.tables.proofs.slots.copy.Given as goal
 
 abbrev pub invariant-loop-i : goal.invariant-loop-i

@@ -2,7 +2,6 @@ use Rattle.tables.proofs.Steps.{start_fits}
 use Rattle.tables.specs.Slots.{filled_of}
 use borrow.Author.Tests.{lt-ltb, le-ltb}
 use native.Mathlib.Omega.{arith}
-use borrow.Author.Rules.{rules}
 use Rattle.tables.proofs.slots.fill.Goals as goal
 
 pub returns-then-width-bytes : goal.returns-then-width-bytes

@@ -5,7 +5,6 @@ use lib.ListN.{take, drop}
 use native.Mathlib.Omega.{arith}
 use Prim.Native.Nat.{ℕ, ◌*◌, ◌+◌, ◌-◌}
 use mathlib.Core.Path.{◌≡◌, ap}
-use borrow.Author.Rules.{rules}
 use Rattle.tables.proofs.slots.part.Goals as goal
 
 pub returns-then-width-len : goal.returns-then-width-len

@@ -1,6 +1,5 @@
 -- A slot that fits has a leaf once the tree is widened, so that it can be placed.
 use Rattle.tournament.proofs.CallSteps.{widen_asks, place_asks, enter_taken, enter_refused}
-use borrow.Author.Rules.{rules}
 use Rattle.std.proofs.Common.{ap, not}
 use Rattle.tournament.proofs.calls.enter.Goals as goal
 

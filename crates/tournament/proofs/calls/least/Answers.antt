@@ -1,6 +1,5 @@
 -- The slot at node 1, by the contract of `slot_at`.
 use Rattle.tournament.specs.Calls.{least_of}
-use borrow.Author.Rules.{rules}
 use Rattle.tournament.proofs.calls.least.Goals as goal
 
 pub returns : goal.returns

@@ -1,7 +1,6 @@
 -- Each return by the tests before it; else the two stores and the path, by their contracts.
 use Rattle.tournament.proofs.CallSteps.{leave_over, leave_past, leave_done}
 use mathlib.Core.Path.{refl}
-use borrow.Author.Rules.{rules}
 use Rattle.tournament.proofs.calls.leave.Goals as goal
 
 pub returns-then-leaves-gt-MAX_CAPACITY : goal.returns-then-leaves-gt-MAX_CAPACITY

@@ -1,6 +1,5 @@
 -- The two stores and the climb, by their contracts.
 use Rattle.tournament.proofs.CallSteps.{placed_is}
-use borrow.Author.Rules.{rules}
 use Rattle.tournament.proofs.calls.place.Goals as goal
 
 pub returns : goal.returns

@@ -1,8 +1,7 @@
 -- The loop's invariant: what is left of the path gives what the whole path gives, and `best_due` is the due of `best`. The measure is the node.
 use mathlib.Core.Path.{refl}
 use native.Mathlib.Omega.{arith}
-use borrow.Author.Rules.{rules}
-use Rattle.tournament.proofs.PathSteps.{Carry, carry_start, carry_done, carry_turn}
+use Rattle.tournament.proofs.PathSteps.{carry_start, carry_done, carry_turn}
 use Rattle.tournament.proofs.carry.carry.Goals as goal
 
 pub loop-node-init : goal.loop-node-init

@@ -1,8 +1,5 @@
 -- The loop's invariant: what is left of the path gives what the whole path gives, and `best_due` is the due of `best`. The measure is the node.
-use mathlib.Core.Path.{refl}
-use native.Mathlib.Omega.{arith}
-use borrow.Author.Rules.{rules}
-use Rattle.tournament.proofs.PathSteps.{Carry, carry_start, carry_done, carry_turn}
+use Rattle.tournament.proofs.PathSteps.{Carry}
 use Rattle.tournament.proofs.carry.carry.Given as goal
 
 abbrev pub invariant-loop-node : goal.invariant-loop-node

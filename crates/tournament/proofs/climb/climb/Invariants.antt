@@ -1,7 +1,5 @@
 -- The loop's invariant: what is left of the climb gives what the whole climb gives. The measure is the node.
-use borrow.Author.Rules.{rules}
-use Rattle.tournament.proofs.PathSteps.{Climb, climb_start, climb_done, climb_stop, climb_turn}
-use Rattle.tournament.proofs.KeySteps.{sibling_less}
+use Rattle.tournament.proofs.PathSteps.{Climb}
 use Rattle.tournament.proofs.climb.climb.Given as goal
 
 abbrev pub invariant-loop-node : goal.invariant-loop-node

@@ -2,10 +2,7 @@
 use native.Mathlib.Omega.{arith}
 use borrow.Author.Rules.{rules}
 use Rattle.tournament.proofs.GrowthSteps.{built_turn, built_done}
-use Rattle.tournament.specs.Growth.{built_of}
-use lib.ListN.{length}
-use Prim.Native.Nat.{◌≤◌, ◌-◌}
-use mathlib.Core.Path.{◌≡◌, ◌∙◌}
+use mathlib.Core.Path.{◌∙◌}
 use Rattle.tournament.proofs.growth.build.Goals as goal
 
 pub loop-node-preserved : goal.loop-node-preserved

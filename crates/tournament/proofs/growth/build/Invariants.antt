@@ -1,11 +1,8 @@
 -- The loop's invariant: building from `node` on gives what the whole building gives. The measure is the node.
-use native.Mathlib.Omega.{arith}
-use borrow.Author.Rules.{rules}
-use Rattle.tournament.proofs.GrowthSteps.{built_turn, built_done}
 use Rattle.tournament.specs.Growth.{built_of}
 use lib.ListN.{length}
 use Prim.Native.Nat.{◌≤◌, ◌-◌}
-use mathlib.Core.Path.{◌≡◌, ◌∙◌}
+use mathlib.Core.Path.{◌≡◌}
 use Rattle.tournament.proofs.growth.build.Given as goal
 
 abbrev pub invariant-loop-node : goal.invariant-loop-node

@@ -1,8 +1,5 @@
 -- The loop's invariant: what is left to store gives what was to store, in both tables. The measure is the number of slots left.
-use borrow.Author.Rules.{rules}
-use Rattle.tournament.proofs.GrowthSteps.{Left, left_start, left_turn, left_done}
-use Rattle.tournament.specs.Growth.{free_due, free_seq}
-use Prim.Native.Nat.{◌-◌}
+use Rattle.tournament.proofs.GrowthSteps.{left_start, left_turn, left_done}
 use mathlib.Core.Path.{refl}
 use Rattle.tournament.proofs.growth.clear.Goals as goal
 

@@ -1,6 +1,5 @@
 -- The new keys by `clear`, the nodes by `build`.
 use Rattle.tournament.proofs.GrowthSteps.{grown_is}
-use borrow.Author.Rules.{rules}
 use Rattle.tournament.proofs.growth.grow.Goals as goal
 
 pub returns : goal.returns

@@ -1,6 +1,5 @@
 -- Either the slot has a leaf already, or the tree grows.
 use Rattle.tournament.proofs.GrowthSteps.{widened_same, widened_more}
-use borrow.Author.Rules.{rules}
 use Rattle.tournament.proofs.growth.widen.Goals as goal
 
 pub returns-then-slot-leaves : goal.returns-then-slot-leaves

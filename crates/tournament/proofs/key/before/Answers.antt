@@ -1,6 +1,5 @@
 -- Dues that are apart by the test; on a tie the seqs that were read.
 use Rattle.tournament.proofs.KeySteps.{apart_is, tie_is}
-use borrow.Author.Rules.{rules}
 use Rattle.tournament.proofs.key.before.Goals as goal
 
 pub returns-then-less-db : goal.returns-then-less-db

@@ -1,6 +1,5 @@
 -- What was chosen, by the test that chose it.
 use Rattle.tournament.proofs.KeySteps.{apart_is, tie_is, chosen_by}
-use borrow.Author.Rules.{rules}
 use Rattle.tournament.proofs.key.better.Goals as goal
 
 pub returns-then-less-db : goal.returns-then-less-db

@@ -1,5 +1,4 @@
 -- The test of the two seqs that were read.
-use borrow.Author.Rules.{rules}
 use Rattle.tournament.proofs.key.earlier.Goals as goal
 
 pub returns : goal.returns

@@ -1,6 +1,5 @@
 -- The dues that were read, compared by `before`.
 use Rattle.tournament.proofs.KeySteps.{less_is}
-use borrow.Author.Rules.{rules}
 use Rattle.tournament.proofs.key.less.Goals as goal
 
 pub returns : goal.returns

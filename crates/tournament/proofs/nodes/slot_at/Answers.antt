@@ -1,7 +1,6 @@
 -- An inner node by the read, a leaf by the test.
 use borrow.Author.Tests.{lt-ltb, le-ltb}
 use Rattle.tournament.specs.Nodes.{slot_at_of}
-use borrow.Author.Rules.{rules}
 use Rattle.tournament.proofs.nodes.slot_at.Goals as goal
 
 pub returns-then-node-leaves : goal.returns-then-node-leaves

@@ -1,6 +1,5 @@
 -- The two children and the test between them, by their contracts.
 use Rattle.tournament.proofs.KeySteps.{winner_is}
-use borrow.Author.Rules.{rules}
 use Rattle.tournament.proofs.nodes.winner.Goals as goal
 
 pub returns : goal.returns

@@ -1,8 +1,6 @@
 -- The blanks in front are those gone by and those in front of what is left.
-use Rattle.std.proofs.Common.{◌≡◌, ◌+◌, ◌-◌, ◌≤◌, length, drop, sym, ◌∙◌, add-zero, arith, rules}
-use Rattle.values.specs.Laws.Scan.{step, end}
+use Rattle.std.proofs.Common.{◌≡◌, ◌+◌, ◌-◌, ◌≤◌, length, drop}
 use Rattle.values.specs.Blanks.{blanks}
-use borrow.Author.Tests.{not-true, not-false}
 use Rattle.values.proofs.blanks.blanks_of.Given as goal
 
 abbrev pub invariant-loop-i : goal.invariant-loop-i

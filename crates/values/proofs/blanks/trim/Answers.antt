@@ -1,5 +1,5 @@
 -- The blanks in front go first, then those at the end of what is left.
-use Rattle.std.proofs.Common.{drop, rules}
+use Rattle.std.proofs.Common.{drop}
 use Rattle.values.specs.Blanks.{blanks}
 use Rattle.values.specs.Laws.Blanks.{trim_front}
 use Rattle.values.proofs.blanks.trim.Goals as goal

@@ -1,6 +1,5 @@
 -- A blank at the end changes nothing, and where the last byte is none all are kept.
 use Rattle.std.proofs.Common.{◌≡◌, ℕ, zero, suc, ◌-◌, ◌<◌, ◌≤◌, List, [], ◌∷◌, ◌++◌, length, get_or, take, sym, ap, ◌∙◌, arith, length-take-le, take-suc, rules}
-use borrow.Author.Tests.{not-true, not-false}
 use lib.Seq.{take-length}
 use Rattle.values.specs.Blanks.{trim_end}
 use Rattle.values.specs.Laws.Blanks.{trim_blank, trim_other}

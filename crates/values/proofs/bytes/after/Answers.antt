@@ -1,5 +1,5 @@
 -- Where the place is past the end nothing is left.
-use Rattle.std.proofs.Common.{sym, le_of_eq, le_of_lt, length-drop, drop_of_length-le, take_all, rules}
+use Rattle.std.proofs.Common.{sym, le_of_eq, le_of_lt, length-drop, drop_of_length-le, take_all}
 use Rattle.values.proofs.bytes.after.Goals as goal
 
 pub returns-then-from-s : goal.returns-then-from-s

@@ -1,5 +1,5 @@
 -- Behind a byte of the list stands the rest, behind any other place nothing.
-use Rattle.std.proofs.Common.{◌+◌, sym, le_of_eq, arith, length-drop, drop_of_length-le, take_all, rules}
+use Rattle.std.proofs.Common.{◌+◌, sym, le_of_eq, arith, length-drop, drop_of_length-le, take_all}
 use Rattle.values.proofs.bytes.behind.Goals as goal
 
 pub returns-then-n-s : goal.returns-then-n-s

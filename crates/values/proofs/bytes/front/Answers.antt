@@ -1,5 +1,5 @@
 -- Where there are fewer bytes all are the front.
-use Rattle.std.proofs.Common.{sym, le_of_lt, length-take-le, take_all, rules}
+use Rattle.std.proofs.Common.{sym, le_of_lt, length-take-le, take_all}
 use Rattle.values.proofs.bytes.front.Goals as goal
 
 pub slice_bounds-result-end : goal.slice_bounds-result-end

@@ -1,7 +1,6 @@
 -- Lists of one length are the same where each byte is.
-use Rattle.std.proofs.Common.{◌≡◌, ◌-◌, ◌≤◌, length, drop, sym, ◌∙◌, arith, rules, eq-eqb, ne_eqb}
+use Rattle.std.proofs.Common.{sym, ◌∙◌, arith, rules, eq-eqb, ne_eqb}
 use Rattle.values.specs.Laws.Scan.{step, end, same_length}
-use Rattle.values.specs.Bytes.{same}
 use Rattle.values.proofs.bytes.is_same.Goals as goal
 
 pub returns-then-a-b : goal.returns-then-a-b

@@ -1,6 +1,5 @@
 -- Lists of one length are the same where each byte is.
-use Rattle.std.proofs.Common.{◌≡◌, ◌-◌, ◌≤◌, length, drop, sym, ◌∙◌, arith, rules, eq-eqb, ne_eqb}
-use Rattle.values.specs.Laws.Scan.{step, end, same_length}
+use Rattle.std.proofs.Common.{◌≡◌, ◌-◌, ◌≤◌, length, drop}
 use Rattle.values.specs.Bytes.{same}
 use Rattle.values.proofs.bytes.is_same.Given as goal
 

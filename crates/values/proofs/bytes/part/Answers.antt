@@ -1,5 +1,5 @@
 -- A part is the front of what comes from its place on.
-use Rattle.std.proofs.Common.{take, ap, ◌∙◌, rules}
+use Rattle.std.proofs.Common.{take, ap, ◌∙◌}
 use Rattle.values.proofs.bytes.part.Goals as goal
 
 pub returns : goal.returns

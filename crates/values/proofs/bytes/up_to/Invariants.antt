@@ -1,6 +1,5 @@
 -- The bytes before the first b are those gone by and those before it in what is left.
-use Rattle.std.proofs.Common.{◌≡◌, ℕ, ◌+◌, ◌-◌, ◌≤◌, List, ◌∷◌, length, get_or, drop, sym, ap, ◌∙◌, add-zero, arith, rules, eq-eqb, ne_eqb}
-use Rattle.values.specs.Laws.Scan.{step, end}
+use Rattle.std.proofs.Common.{◌≡◌, ◌+◌, ◌-◌, ◌≤◌, length, drop}
 use Rattle.values.specs.Bytes.{up_to}
 use Rattle.values.proofs.bytes.up_to.Given as goal
 

@@ -1,5 +1,5 @@
 -- Each colon that is found leaves one part and the text behind it.
-use Rattle.std.proofs.Common.{◌≡◌, ℕ, ◌+◌, ◌<◌, length, drop, sym, refl, ap, ◌∙◌, rules}
+use Rattle.std.proofs.Common.{◌≡◌, ℕ, ◌+◌, ◌<◌, length, drop, sym, refl, ap, ◌∙◌}
 use Rattle.values.specs.Bytes.{up_to, behind_first, colon}
 use Rattle.values.specs.Laws.Parts.{no_colon, one_colon, two_colons, more_colons}
 use Rattle.values.proofs.colons.colons_of.Goals as goal

@@ -1,7 +1,6 @@
 -- The case of a number is judged, a refusal stays.
 use lib.Ieee.{of_int, of_bits}
 use Rattle.values.specs.Decimal.{at_most_one}
-use Rattle.std.proofs.Common.{rules}
 use Rattle.values.proofs.decimal.at_most_one.Goals as goal
 
 pub returns-then-x : goal.returns-then-x

@@ -1,7 +1,6 @@
 -- Both numbers become floats and are divided once.
 use Rattle.numbers.specs.Digits.{decimal_value}
 use Rattle.values.specs.Stages.{over_ten}
-use Rattle.std.proofs.Common.{rules}
 use Rattle.values.proofs.decimal.over_ten.Goals as goal
 
 pub returns-in-Number : goal.returns-in-Number

@@ -1,5 +1,5 @@
 -- The digits before the point are read, and those behind it from there on.
-use Rattle.std.proofs.Common.{◌≡◌, sym, ◌∙◌, arith, rules}
+use Rattle.std.proofs.Common.{◌≡◌, sym, ◌∙◌, arith}
 use Rattle.values.specs.Decimal.{parse_f64_ms_of, decimal_of}
 use Rattle.values.specs.Laws.Decimals.{decimal_read, decimal_none, decimal_long}
 use Rattle.values.proofs.decimal.parse_f64_ms.Goals as goal

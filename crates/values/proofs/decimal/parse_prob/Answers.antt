@@ -1,5 +1,4 @@
 -- A decimal first, then the test against 1.
-use Rattle.std.proofs.Common.{rules}
 use Rattle.values.proofs.decimal.parse_prob.Goals as goal
 
 pub returns : goal.returns

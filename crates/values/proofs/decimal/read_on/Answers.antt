@@ -1,5 +1,4 @@
 -- A refusal stays.
-use Rattle.std.proofs.Common.{rules}
 use Rattle.values.proofs.decimal.read_on.Goals as goal
 
 pub returns-in-Number : goal.returns-in-Number

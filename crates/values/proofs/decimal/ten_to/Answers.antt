@@ -1,5 +1,5 @@
 -- Each turn multiplies by ten, and 10^15 is below 2^64.
-use Rattle.std.proofs.Common.{◌≡◌, ℕ, ◌-◌, ◌^◌, ◌<◌, ◌≤◌, sym, ap, ◌∙◌, pow-suc, add-one, arith, lit<, rules}
+use Rattle.std.proofs.Common.{ℕ, ◌^◌, ◌≤◌, sym, ap, ◌∙◌, pow-suc, add-one, arith, lit<, rules}
 use native.Mathlib.Nat.{pow-le-pow_right}
 use Rattle.values.proofs.decimal.ten_to.Goals as goal
 

@@ -1,6 +1,5 @@
 -- Each turn multiplies by ten, and 10^15 is below 2^64.
-use Rattle.std.proofs.Common.{◌≡◌, ℕ, ◌-◌, ◌^◌, ◌<◌, ◌≤◌, sym, ap, ◌∙◌, pow-suc, add-one, arith, lit<, rules}
-use native.Mathlib.Nat.{pow-le-pow_right}
+use Rattle.std.proofs.Common.{◌≡◌, ◌-◌, ◌^◌, ◌≤◌}
 use Rattle.values.proofs.decimal.ten_to.Given as goal
 
 abbrev pub invariant-loop-i : goal.invariant-loop-i

@@ -1,10 +1,6 @@
 -- What is read so far, read on over what is left, is what the whole gives.
-use Rattle.std.proofs.Common.{◌≡◌, ℕ, ◌+◌, ◌-◌, ◌^◌, ◌<◌, ◌≤◌, List, ◌∷◌, length, get_or, drop, sym, ap, ◌∙◌, arith, rules}
-use Rattle.values.specs.Laws.Digits.{no_digit, digit_more_lem, digit_over, digits_end}
-use Rattle.values.specs.Laws.Scan.{step, end}
+use Rattle.std.proofs.Common.{◌≡◌, ◌-◌, ◌^◌, ◌<◌, ◌≤◌, length, drop}
 use Rattle.values.specs.Whole.{digits_from}
-use Rattle.numbers.specs.Laws.Digits.{digit_range}
-use borrow.Author.Tests.{not-true, not-false}
 use Rattle.values.proofs.digits.digits_from.Given as goal
 
 abbrev pub invariant-loop-i : goal.invariant-loop-i

@@ -1,6 +1,6 @@
 -- Only a first byte that is a plus sign goes.
 use Rattle.values.specs.Laws.Digits.{plussed, not_plussed, not_plussed_nil}
-use Rattle.std.proofs.Common.{sym, ◌∙◌, le_of_eq, length-drop, take_all, rules}
+use Rattle.std.proofs.Common.{sym, ◌∙◌, le_of_eq, length-drop, take_all}
 use Rattle.values.proofs.digits.without_plus.Goals as goal
 
 pub returns-then-v-eq43 : goal.returns-then-v-eq43

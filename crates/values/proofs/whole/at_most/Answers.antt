@@ -1,5 +1,5 @@
 -- The case of a number is judged, a refusal stays.
-use Rattle.std.proofs.Common.{rules, le-leb}
+use Rattle.std.proofs.Common.{le-leb}
 use borrow.Author.Tests.{lt-leb}
 use Rattle.values.specs.Whole.{at_most}
 use Rattle.values.proofs.whole.at_most.Goals as goal

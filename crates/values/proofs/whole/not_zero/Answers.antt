@@ -1,5 +1,5 @@
 -- The case of a number is judged, a refusal stays.
-use Rattle.std.proofs.Common.{rules, eq-eqb, ne_eqb}
+use Rattle.std.proofs.Common.{eq-eqb, ne_eqb}
 use Rattle.values.specs.Whole.{not_zero}
 use Rattle.values.proofs.whole.not_zero.Goals as goal
 

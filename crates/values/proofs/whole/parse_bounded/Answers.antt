@@ -1,5 +1,4 @@
 -- A whole number first, then the limit.
-use Rattle.std.proofs.Common.{rules}
 use Rattle.values.proofs.whole.parse_bounded.Goals as goal
 
 pub returns : goal.returns

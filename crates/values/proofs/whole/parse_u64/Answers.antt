@@ -1,5 +1,5 @@
 -- No digits are refused, others are read from 0.
-use Rattle.std.proofs.Common.{rules, eq-eqb, ne_eqb}
+use Rattle.std.proofs.Common.{eq-eqb, ne_eqb}
 use Rattle.values.specs.Whole.{parse_u64_of}
 use Rattle.values.proofs.whole.parse_u64.Goals as goal
 

@@ -1,5 +1,5 @@
 -- A draw is finite, so it has a bit pattern.
-use Rattle.draws.specs.Laws.Fraction.{draw_plus}
+use Rattle.draws.proofs.Fraction.{draw_plus}
 use Rattle.numbers.specs.Laws.Kinds.{number_is, plus_finite_number}
 use Rattle.std.proofs.Common.{rules}
 use Rattle.vectors.proofs.oracle_draws.step.Goals as goal

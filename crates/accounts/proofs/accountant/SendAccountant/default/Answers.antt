@@ -1,5 +1,4 @@
 -- The latencies are those of the contract.
-use borrow.Author.Rules.{rules}
 use Rattle.accounts.specs.Accountant.{no_sends}
 use Rattle.accounts.proofs.accountant.SendAccountant.default.Goals as goal
 

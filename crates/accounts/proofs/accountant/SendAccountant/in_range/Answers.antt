@@ -1,5 +1,4 @@
 -- The bits of all counters are those of the list, gathered from its front.
-use borrow.Author.Rules.{rules}
 use mathlib.Core.Path.{◌∙◌}
 use mathlib.Core.List.{[], ◌∷◌}
 use Rattle.accounts.specs.Laws.Counters.{gathered}

@@ -1,6 +1,4 @@
 -- Each return is what the definition gives by the same test of both records.
-use borrow.Author.Rules.{rules}
-use borrow.Author.Tests.{not-true, not-false}
 use mathlib.Core.Path.{◌≡◌, sym, ◌∙◌}
 use mathlib.Core.Bool.{true, ◌&&◌, and-eq-true_iff}
 use Rattle.accounts.specs.Counters.{are_counters, accountant_counters, stats_counters}

@@ -1,6 +1,4 @@
 -- Each return is what the definition gives by the same test.
-use borrow.Author.Rules.{rules}
-use borrow.Author.Tests.{not-true, not-false}
 use mathlib.Core.Path.{◌≡◌, sym, ◌∙◌}
 use mathlib.Core.Bool.{true}
 use Rattle.accounts.specs.Counters.{are_counters, stats_counters}

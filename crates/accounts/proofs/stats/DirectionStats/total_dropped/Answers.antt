@@ -1,5 +1,4 @@
 -- Five counters below 2 ^ 60 add up below 2 ^ 64.
-use borrow.Author.Rules.{rules}
 use native.Mathlib.Omega.{arith}
 use mathlib.Core.Path.{sym, ◌∙◌}
 use Rattle.accounts.specs.Stats.{total_of}

@@ -8,7 +8,6 @@ use Rattle.values.specs.Bytes.{equals}
 use Rattle.values.specs.Laws.Scan.{up_to_le}
 use Rattle.args.specs.Places.{keyed_of}
 use Rattle.args.specs.Laws.Dashes.{dashes_le}
-use borrow.Author.Rules.{rules}
 use Rattle.args.proofs.cursor.Cursor.keyed.Goals as goal
 use Rattle.args.proofs.cursor.Cursor.keyed.Goals.{After-after-key}
 

@@ -1,10 +1,9 @@
 -- The zero byte that closes the argument is within the text, and each return is what the definition chooses by the same tests.
-use borrow.Author.Tests.{lt-ltb, le-ltb, not-true, not-false}
+use borrow.Author.Tests.{lt-ltb, le-ltb}
 use native.Mathlib.Omega.{arith}
 use mathlib.Core.Path.{sym, ap, ◌∙◌}
 use lib.ListN.{length, length-drop}
 use Rattle.args.specs.Places.{next_of}
-use borrow.Author.Rules.{rules}
 use Rattle.args.proofs.cursor.Cursor.next.Goals as goal
 
 pub returns-then-rest-n : goal.returns-then-rest-n

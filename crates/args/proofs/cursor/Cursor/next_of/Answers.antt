@@ -1,18 +1,18 @@
 -- The next place of the key is that of the step, or the next one behind it; each step comes nearer to the end of the text.
 use borrow.Author.Rules.{rules}
-use borrow.Author.Tests.{not-true, not-false, eq-eqb, ne_eqb}
+use borrow.Author.Tests.{eq-eqb, ne_eqb}
 use native.Mathlib.Omega.{arith}
 use mathlib.Core.List.{◌++◌}
 use mathlib.Core.Bool.{true, cond}
 use mathlib.Core.Path.{◌≡◌, refl, sym, ap, ◌∙◌}
-use Prim.Native.Nat.{◌≤◌, ◌<◌, ◌-◌}
-use lib.ListN.{length, drop}
+use Prim.Native.Nat.{◌<◌, ◌-◌}
+use lib.ListN.{length}
 use Rattle.values.specs.Laws.Scan.{step, end, same_length}
 use Rattle.values.specs.Bytes.{same}
 use Rattle.args.specs.declared.cursor.Found.TheVariants.{At}
 use Rattle.args.specs.Places.{has_next, hit_at, hit_of}
-use Rattle.args.specs.Laws.Steps.{nearer}
-use Rattle.args.specs.Laws.Hits.{hit_turn}
+use Rattle.args.proofs.Steps.{nearer}
+use Rattle.args.proofs.Hits.{hit_turn}
 use Rattle.args.specs.Laws.Keys.{same_append}
 use Rattle.args.proofs.cursor.Cursor.next_of.Goals as goal
 use Rattle.args.proofs.cursor.Cursor.next_of.Goals.{After-after-tail, After-next-step, After-part-key, In-Pair}

@@ -1,7 +1,6 @@
 -- The zero byte that closes the value decides.
 use borrow.Author.Tests.{lt-ltb, le-ltb}
 use Rattle.args.specs.Places.{valued_of}
-use borrow.Author.Rules.{rules}
 use Rattle.args.proofs.cursor.Cursor.valued.Goals as goal
 
 pub returns-then-more-l : goal.returns-then-more-l

@@ -1,5 +1,5 @@
 -- 53 bits are a whole number that a float holds, and 1 over 2 ^ 53 is the power of the definition.
-use Rattle.std.proofs.Common.{arith, le→leb, rules}
+use Rattle.std.proofs.Common.{arith, le→leb}
 use lib.Ieee.{in_float, div, of_bits}
 use Rattle.draws.specs.Rng.{next_u64_of, next_f64_of, fraction_of}
 use Rattle.draws.proofs.rng.Rng.next_f64.Goals as goal

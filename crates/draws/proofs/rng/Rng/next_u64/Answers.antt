@@ -1,5 +1,4 @@
 -- The three shifts are the step, and the product is the contract of `wrapping_mul`.
-use Rattle.std.proofs.Common.{rules}
 use Rattle.draws.specs.Rng.{step_of, output_of, next_u64_of}
 use Rattle.draws.proofs.rng.Rng.next_u64.Goals as goal
 

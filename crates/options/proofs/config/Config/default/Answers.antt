@@ -1,6 +1,5 @@
 -- Both directions are the default one.
 use Rattle.options.specs.Config.{default_config}
-use borrow.Author.Rules.{rules}
 use Rattle.options.proofs.config.Config.default.Goals as goal
 
 pub returns : goal.returns

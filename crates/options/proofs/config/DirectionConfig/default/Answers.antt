@@ -1,7 +1,6 @@
 -- The lists are filled with the empty window and the kill of it.
 use lib.Ieee.{of_int, of_bits}
 use Rattle.options.specs.Config.{direction_with, default_direction}
-use borrow.Author.Rules.{rules}
 use Rattle.options.proofs.config.DirectionConfig.default.Goals as goal
 
 pub returns : goal.returns

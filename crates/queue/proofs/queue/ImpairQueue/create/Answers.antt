@@ -1,7 +1,6 @@
 -- Each return by its step.
 use Rattle.queue.proofs.CreationSteps.{cap_within, create_out, create_short, create_done}
 use native.Mathlib.Omega.{arith}
-use borrow.Author.Rules.{rules}
 use Rattle.std.proofs.Common.{ap, not}
 use Rattle.queue.proofs.queue.ImpairQueue.create.Goals as goal
 

@@ -1,7 +1,6 @@
 -- Refused, or the empty queue.
 use borrow.Author.Tests.{eq-eqb, ne_eqb}
 use Rattle.queue.specs.Calls.{drain_of}
-use borrow.Author.Rules.{rules}
 use Rattle.queue.proofs.queue.ImpairQueue.drain.Goals as goal
 
 pub returns-then-number-ne0 : goal.returns-then-number-ne0

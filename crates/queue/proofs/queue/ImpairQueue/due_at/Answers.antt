@@ -1,7 +1,6 @@
 -- Two cases.
 use borrow.Author.Tests.{le-leb, lt-leb}
 use Rattle.queue.specs.Calls.{due_at}
-use borrow.Author.Rules.{rules}
 use Rattle.queue.proofs.queue.ImpairQueue.due_at.Goals as goal
 
 pub returns-then-self-root : goal.returns-then-self-root

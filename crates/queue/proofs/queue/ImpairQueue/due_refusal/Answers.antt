@@ -1,7 +1,6 @@
 -- The refusal of the state by its contract.
 use Rattle.queue.specs.Refusals.{due_refusal}
 use Rattle.queue.specs.Calls.{}
-use borrow.Author.Rules.{rules}
 use Rattle.queue.proofs.queue.ImpairQueue.due_refusal.Goals as goal
 
 pub returns : goal.returns

@@ -4,7 +4,6 @@ use Rattle.queue.specs.Tables.{tables}
 use Rattle.queue.proofs.PushSteps.{first_only, both_copies, second_needs}
 use mathlib.Core.Path.{◌∙◌}
 use native.Mathlib.Omega.{arith}
-use borrow.Author.Rules.{rules}
 use Rattle.std.proofs.Common.{ap, not}
 use Rattle.queue.proofs.queue.ImpairQueue.enter_copies.Goals as goal
 

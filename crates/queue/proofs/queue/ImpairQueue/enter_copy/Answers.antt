@@ -2,8 +2,6 @@
 use Rattle.queue.specs.Refusals.{slot_width}
 use Rattle.queue.specs.Tables.{tables}
 use Rattle.queue.proofs.PushSteps.{copy_unfit, copy_enters}
-use borrow.Author.Tests.{not-true, not-false}
-use borrow.Author.Rules.{rules}
 use Rattle.queue.proofs.queue.ImpairQueue.enter_copy.Goals as goal
 
 pub next_slot-slot-requires : goal.next_slot-slot-requires

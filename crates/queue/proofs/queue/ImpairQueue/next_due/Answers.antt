@@ -1,7 +1,6 @@
 -- Refused, none held, or the slot at the root.
 use borrow.Author.Tests.{eq-eqb, ne_eqb}
 use Rattle.queue.specs.Calls.{next_due_of}
-use borrow.Author.Rules.{rules}
 use Rattle.queue.proofs.queue.ImpairQueue.next_due.Goals as goal
 
 pub returns-then-number-ne0 : goal.returns-then-number-ne0

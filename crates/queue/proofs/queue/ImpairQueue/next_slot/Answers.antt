@@ -1,7 +1,6 @@
 -- Two cases.
 use borrow.Author.Tests.{eq-eqb, ne_eqb}
 use Rattle.queue.specs.Calls.{next_slot}
-use borrow.Author.Rules.{rules}
 use Rattle.queue.proofs.queue.ImpairQueue.next_slot.Goals as goal
 
 pub returns-then-self : goal.returns-then-self

@@ -1,7 +1,6 @@
 -- The larger of two numbers, by the test.
 use Rattle.queue.proofs.PushSteps.{one_more_is}
 use native.Mathlib.Omega.{arith}
-use borrow.Author.Rules.{rules}
 use Rattle.queue.proofs.queue.ImpairQueue.one_more.Goals as goal
 
 pub returns-then-self-held : goal.returns-then-self-held

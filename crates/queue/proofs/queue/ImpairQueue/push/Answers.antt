@@ -5,7 +5,6 @@ use Rattle.queue.proofs.PushSteps.{push_refused, push_done}
 use Rattle.queue.proofs.RefusalSteps.{push_passed}
 use mathlib.Core.Path.{sym, ◌∙◌}
 use native.Mathlib.Omega.{arith}
-use borrow.Author.Rules.{rules}
 use Rattle.queue.proofs.queue.ImpairQueue.push.Goals as goal
 
 pub returns-then-number-ne0 : goal.returns-then-number-ne0

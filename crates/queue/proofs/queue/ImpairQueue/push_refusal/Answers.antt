@@ -1,7 +1,6 @@
 -- Each test by its contract; a due is compared with itself to find a NaN.
 use Rattle.queue.proofs.RefusalSteps.{eq_self}
 use Rattle.queue.specs.Refusals.{push_refusal}
-use borrow.Author.Rules.{rules}
 use Rattle.queue.proofs.queue.ImpairQueue.push_refusal.Goals as goal
 
 pub returns : goal.returns

@@ -5,7 +5,6 @@ use Rattle.queue.proofs.ReleaseSteps.{release_refused, release_empty, release_un
 use Rattle.queue.proofs.RefusalSteps.{release_passed}
 use native.Mathlib.Omega.{arith}
 use mathlib.Core.Path.{sym, ◌∙◌}
-use borrow.Author.Rules.{rules}
 use Rattle.queue.proofs.queue.ImpairQueue.release.Goals as goal
 
 pub returns-then-number-ne0 : goal.returns-then-number-ne0

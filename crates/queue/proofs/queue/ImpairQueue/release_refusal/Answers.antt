@@ -1,6 +1,5 @@
 -- Each test by its contract.
 use Rattle.queue.specs.Refusals.{release_refusal}
-use borrow.Author.Rules.{rules}
 use Rattle.queue.proofs.queue.ImpairQueue.release_refusal.Goals as goal
 
 pub returns : goal.returns

@@ -2,7 +2,6 @@
 use Rattle.queue.specs.Tables.{tables}
 use Rattle.queue.specs.Tables.{tables}
 use Rattle.queue.proofs.ReleaseSteps.{left_is}
-use borrow.Author.Rules.{rules}
 use Rattle.queue.proofs.queue.ImpairQueue.release_slot.Goals as goal
 
 pub one_less-requires : goal.one_less-requires

@@ -1,5 +1,4 @@
 -- Each bound becomes a float and is compared once, the end only where the start is not later.
-use borrow.Author.Rules.{rules}
 use Rattle.settings.specs.Windows.{contains_of}
 use Rattle.settings.proofs.window.Window.contains.Goals as goal
 

@@ -3,7 +3,6 @@ use lib.ListN.{length}
 use Rattle.values.specs.Bytes.{up_to, colon}
 use borrow.Author.Tests.{lt-ltb, le-ltb}
 use Rattle.settings.specs.Windows.{parse_window_of}
-use borrow.Author.Rules.{rules}
 use Rattle.settings.proofs.window.Window.parse.Goals as goal
 
 pub returns-then-v-p : goal.returns-then-v-p

@@ -8,7 +8,7 @@ use Rattle.args.specs.declared.cursor.Step.{Step}
 use Rattle.args.specs.declared.cursor.Found.{Found}
 use Rattle.args.specs.declared.cursor.Found.TheVariants.{At, Nothing}
 use Rattle.args.specs.Places.{next_of, has_next, steps_of, hit_at, hit_in, hit_of, last_at, last_in}
-use Rattle.args.specs.Laws.Steps.{Later, along, steps}
+use Rattle.args.proofs.Steps.{Later, along, steps}
 
 module _ (s k : List ℕ) where
   hit_later : (at : ℕ) (r : Step) (a : Arg) → hit_at s k r a (hit_in s k (cond (has_next a) (steps_of s at) [])) ≡ hit_at s k r a (hit_of s k at)

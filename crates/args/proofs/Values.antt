@@ -10,9 +10,9 @@ use Rattle.args.specs.declared.cursor.Found.TheVariants.{At, Nothing}
 use Rattle.args.specs.declared.cursor.Hit.{Hit}
 use Rattle.args.specs.Arguments.{Gathered, gathered, values_in, values_of, Value, absent, given, last_from, last_value_of}
 use Rattle.args.specs.Places.{next_of, has_next, hit_at, hit_of, last_at, last_of}
-use Rattle.args.specs.Laws.Turn.{onward, turn_of, never}
-use Rattle.args.specs.Laws.Steps.{Later, along}
-use Rattle.args.specs.Laws.Hits.{hit_turn, last_from_place, last_turn}
+use Rattle.args.proofs.Turn.{onward, turn_of, never}
+use Rattle.args.proofs.Steps.{Later, along}
+use Rattle.args.proofs.Hits.{hit_turn, last_from_place, last_turn}
 
 -- the value at a place, and then the values behind it
 abbrev pub hit_on : List ℕ → Found → List (List ℕ) → List (List ℕ)

@@ -6,7 +6,7 @@ use mathlib.Core.List.{List, [], ◌∷◌}
 use Rattle.std.proofs.Common.{arith}
 use Rattle.args.specs.declared.cursor.Step.{Step}
 use Rattle.args.specs.Places.{next_of, has_next, steps_from, steps_of}
-use Rattle.args.specs.Laws.Turn.{turn_of}
+use Rattle.args.proofs.Turn.{turn_of}
 
 module _ (s : List ℕ) where
   -- fewer bytes are left behind a step that goes on

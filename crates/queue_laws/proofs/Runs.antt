@@ -10,7 +10,7 @@ use Rattle.queue_laws.specs.Held.{Plain, plain, Call, push, release, drain, next
 use Rattle.queue_laws.specs.Replies.{answer_to, answers_to}
 use Rattle.queue_laws.specs.Laws.Keeps.{Keeps}
 use Rattle.queue_laws.specs.Laws.Creation.{create_keeps, refused_keeps, long_memory}
-use Rattle.queue_laws.specs.Laws.Agree.{Agree, push_agrees, release_agrees, drain_agrees, due_agrees, len_agrees, empty_agrees}
+use Rattle.queue_laws.proofs.Agree.{Agree, push_agrees, release_agrees, drain_agrees, due_agrees, len_agrees, empty_agrees}
 
 pub call_agrees : (width : ℕ) (t : Tables) (q : ImpairQueue) (p : Plain) → Keeps width t q p → (c : Call) → Agree width (answer_to width q t c) (step width p c)
 unfolding answer_to step

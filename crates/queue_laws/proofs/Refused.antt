@@ -17,8 +17,8 @@ use Rattle.queue.specs.declared.queue.ImpairQueue.{ImpairQueue}
 use Rattle.queue_laws.specs.Held.{Plain, Step, step_to, Call, push, release, drain, next_due, len, is_empty, has_memory, entered, released, none_due, drained, holds, tells, refused, unless_refused, is_full, with_copy, second_plain, push_checks, push_plain, hand_out, release_checks, release_plain, state_checks, drain_plain, least_due, next_due_plain, step}
 use Rattle.queue_laws.specs.Replies.{answer_to, said_by_push}
 use Rattle.queue_laws.specs.Laws.Keeps.{Keeps}
-use Rattle.queue_laws.specs.Laws.Agree.{push_agrees}
-use Rattle.queue_laws.specs.Laws.Runs.{call_agrees}
+use Rattle.queue_laws.proofs.Agree.{push_agrees}
+use Rattle.queue_laws.proofs.Runs.{call_agrees}
 
 -- a refusal that is neither 23 nor 26
 abbrev pub Neither : ℕ → Type 0

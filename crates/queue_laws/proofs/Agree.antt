@@ -15,7 +15,7 @@ use Rattle.numbers.specs.Laws.Limits.{counter_below}
 use Rattle.numbers.specs.Limits.{max_capacity, counter_limit, is_counter_of}
 use Rattle.numbers.specs.Whole.{whole}
 use Rattle.held.specs.Copies.{Copy, due_by, least_in, leaving}
-use Rattle.held.specs.Laws.Due.{if_due, least_due_lem}
+use Rattle.held.proofs.Due.{if_due, least_due_lem}
 use Rattle.tournament.specs.Calls.{least_of}
 use Rattle.queue.specs.Tables.{Tables, After, after}
 use Rattle.queue.specs.Refusals.{memory_of, in_keeping, push_refusal, release_refusal, state_refusal, due_refusal}

@@ -1,0 +1,4 @@
+pub mod Agree
+pub mod Runs
+pub mod Refused
+pub mod Theorem
