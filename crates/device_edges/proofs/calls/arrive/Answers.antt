@@ -1,5 +1,6 @@
 -- The tables have the lengths of their types, and what is lent of the store lies within it.
 use mathlib.Core.Path.{◌≡◌, sym}
+use Prim.Native.Nat.{◌≤◌}
 use lib.ListN.{length}
 use lib.Seq.{length-take-le}
 use borrow.Author.Rules.{rules}
@@ -35,4 +36,7 @@ slice_bounds-store-end c =
     rw long c.store_end-end.ensures
 
 pub slice_bounds-arrive-end-9 : goal.slice_bounds-arrive-end-9
-slice_bounds-arrive-end-9 c = sym (length-take-le _ _ (array-borrow-prefix-store c.before))
+slice_bounds-arrive-end-9 c =
+    let long : length c.args.memory.store ≡ 4096 = search (rules, c.well_formed.0) in
+    let fits : c.store_end-end.result ≤ length c.args.memory.store = rw long c.store_end-end.ensures in
+    sym (length-take-le _ _ fits)

@@ -1,0 +1,9 @@
+-- The loop ends after its turns.
+use Rattle.std.proofs.Common.{rules}
+use Rattle.bench.proofs.parses.run.Given as goal
+
+abbrev pub invariant-loop-left : goal.invariant-loop-left
+invariant-loop-left l = Unit {0}
+
+abbrev pub decreases-loop-left : goal.decreases-loop-left
+decreases-loop-left l = l.left

@@ -1,0 +1,147 @@
+-- THE CLAIM (demand 3 of document 01). For every option text, direction, salt and capacity, every lent memory, whatever stood in it, and every list of arrive,
+-- release, rebind, teardown and report calls, refused ones included, on a device whose creation was not refused:
+--
+--   * the answers are the plain machine's, number for number and bit for bit, and a released copy's part of the store has the machine's bytes; only the slot in
+--     which a copy lies is not compared;
+--   * each released copy has the instant, the bytes and the route of the arrive call in which a copy entered with its seq;
+--   * another list of calls that is alike in kinds, order, times and lengths has answers that are alike but for the bytes and routes handed out;
+--   * received + duplicates = random + GE + MTU + blackout + reset + overflow + released + torn + held, counted from the answers;
+--   * each report says what is counted from the answers before it, and its own numbers come out;
+--   * no call is refused but by 21, 22 or 25, and a refused call leaves the device and all nine tables as they were.
+--
+-- The device of a refused creation has all of this too, with the machine of the default settings, the generator's seed 0 and capacity 1
+-- (`refused-creation-agrees`). Of any device and any memory, altered ones too, a call that is refused by any number but 26 changes nothing
+-- (`refused-changes-nothing`, demand 1). And none of this speaks of nothing: every list of calls has a run, on any device and memory (`runs-exist`).
+--
+-- It rests on the contracts of `parse_config`, `create`, `arrive`, `release`, `payload`, `rebind`, `teardown` and `report`, each proved of its function: a run
+-- (Runs) is a list of calls for which these contracts hold, each handed the device and the tables that the last one left. An instant handed to `arrive` is a
+-- number of binary64, as every f64 is.
+use Rattle.std.specs.Prelude.{◌≡◌, ◌≢◌, true, List, ℕ, ◌<◌, ◌≤◌}
+use Rattle.std.proofs.Common.{sym, ap, ◌∙◌, subst}
+use Rattle.numbers.specs.Limits.{max_capacity}
+use Rattle.numbers.specs.Refusals.{refused_keeping}
+use Rattle.judgement.specs.Settings.{is_settings_of}
+use Rattle.judgement.specs.Laws.Parsed.{parse_sound}
+use Rattle.options.specs.Parse.{parse_of}
+use Rattle.options.specs.declared.config.DirectionConfig.{DirectionConfig}
+use Rattle.options.specs.declared.outcome.Parsed.{Parsed}
+use Rattle.queue.specs.Refusals.{slot_width}
+use Rattle.queue.specs.Tables.{Tables}
+use Rattle.queue_laws.specs.Laws.Keeps.{Long}
+use Rattle.machine.specs.Bare.{bare_calls, bare_answers}
+use Rattle.machine.specs.Calls.{Call, Answer, refused, Refusal, In, Binary64}
+use Rattle.machine.specs.Machine.{Creation, host_creation, fresh_machine}
+use Rattle.machine.specs.Steps.{answers}
+use Rattle.machine.proofs.Theorems.{count, each_own, alike, each_report, only_three_along}
+use Rattle.device.specs.Creation.{create_of}
+use Rattle.device.specs.declared.answers.CreateAnswer.TheVariants as create
+use Rattle.device.specs.declared.answers.Created.{Created}
+use Rattle.device.specs.declared.device.Device.{Device}
+use Rattle.claim.specs.Creations.{refused_creation, CreationEnds}
+use Rattle.claim.specs.Runs.{Parses, Creates, Answered, Ran}
+use Rattle.claim.proofs.Laws.Answers.{answers_to}
+use Rattle.claim.proofs.Laws.Creation.{create_matches, create_made, create_ends, refused_device, refused_matches}
+use Rattle.claim.proofs.Laws.Exist.{parses_so, creates_so, ran_so}
+use Rattle.claim.proofs.Laws.Matches.{Matches}
+use Rattle.claim.proofs.Laws.Ran.{parses_is, creates_is, ran_is, ran_binary64}
+use Rattle.claim.proofs.Laws.Refused.{answered_stays, ran_stays}
+use Rattle.claim.proofs.Laws.Runs.{calls_agree}
+use Rattle.claim.specs.Claim.{Claimed, Direction, c2s, s2c, settings_of, machine_of}
+
+-- of a device and tables that match a fresh machine
+claim_of_matching : (o : Creation) {v : Device} {t : Tables} → Matches v t (fresh_machine o) → {cs : List Call} {rs : List Answer} (ran : Ran v t cs rs) → Claimed (fresh_machine o) ran
+claim_of_matching o {v} {t} matching {cs} {rs} ran =
+    record {
+      same = same;
+      own = rw same (each_own o cs);
+      alike_answers = λ (ds : List Call) (e : bare_calls cs ≡ bare_calls ds). ap bare_answers same ∙ alike o cs ds e;
+      counted = rw same (count o cs);
+      reports = rw same (each_report o cs);
+      refusals = three;
+      refused_stay = ran_stays ran three;
+    }
+  where
+    same : rs ≡ answers (fresh_machine o) cs
+    same = ran_is ran ∙ calls_agree cs (ran_binary64 ran) v t (fresh_machine o) matching
+
+    three : (k : ℕ) → In (refused k) rs → Refusal k
+    three = rw same (only_three_along (fresh_machine o) cs)
+
+-- a creation is made of what the host named, or is refused by 29, 24 or 23
+pub creation_ends : {cfg : DirectionConfig} {seed salt cap : ℕ} {t : Tables} {r : Created} → Creates cfg seed salt cap t r → CreationEnds (host_creation cfg seed salt cap) r
+creation_ends {cfg} {seed} {salt} {cap} {t} c = subst (CreationEnds (host_creation cfg seed salt cap)) (sym (creates_is c)) (create_ends cfg seed salt cap t)
+
+-- of any settings that a host names
+pub claim_of_settings : {cfg : DirectionConfig} {seed salt cap : ℕ} {t : Tables} {r : Created}
+    → Creates cfg seed salt cap t r → r.answer ≡ create.Created
+    → {cs : List Call} {rs : List Answer} (ran : Ran r.device t cs rs)
+    → Claimed (fresh_machine (host_creation cfg seed salt cap)) ran
+claim_of_settings {cfg} {seed} {salt} {cap} {t} {r} c made ran = claim_of_matching (host_creation cfg seed salt cap) matching ran
+  where
+    matching : Matches r.device t (fresh_machine (host_creation cfg seed salt cap))
+    matching =
+        subst (λ (x : Created). x.answer ≡ create.Created → Matches x.device t (fresh_machine (host_creation cfg seed salt cap))) (sym (creates_is c))
+        (create_matches cfg seed salt cap t) made
+
+-- the device of a refused creation too, over memory that is long enough for its capacity: that of the default settings, the generator's seed 0 and capacity 1
+pub refused_creation_agrees : {cfg : DirectionConfig} {seed salt cap : ℕ} {t : Tables} {r : Created}
+    → Creates cfg seed salt cap t r → (k : ℕ) → r.answer ≡ create.Refused k
+    → {u : Tables} → Long slot_width refused_creation.capacity u
+    → {cs : List Call} {rs : List Answer} (ran : Ran r.device u cs rs)
+    → Claimed (fresh_machine refused_creation) ran
+refused_creation_agrees {r = r} c k says {u} long ran = claim_of_matching refused_creation matching ran
+  where
+    matching : Matches r.device u (fresh_machine refused_creation)
+    matching = subst (λ (v : Device). Matches v u (fresh_machine refused_creation)) (sym (refused_device _ r k (creation_ends c) says)) (refused_matches u long)
+
+-- of the settings and the seed of an option text, as `parse_config` returned them
+pub claim : {text : List ℕ} {p : Parsed} → Parses text p
+    → (d : Direction) {salt cap : ℕ} {t : Tables} {r : Created}
+    → Creates (settings_of d p.config) p.config.seed salt cap t r → r.answer ≡ create.Created
+    → {cs : List Call} {rs : List Answer} (ran : Ran r.device t cs rs)
+    → Claimed (machine_of text d salt cap) ran
+claim parses d {salt} {cap} c made ran =
+    subst (λ (p : Parsed). Claimed (fresh_machine (host_creation (settings_of d p.config) p.config.seed salt cap)) ran) (parses_is parses) (claim_of_settings c made ran)
+
+-- two runs of one text, direction, salt and capacity, each over its own memory: calls that are alike in kinds, order, times and lengths have answers that are
+-- alike but for the bytes and routes handed out
+pub two_runs : {text : List ℕ} {p : Parsed} → Parses text p
+    → (d : Direction) {salt cap : ℕ} {t u : Tables} {r q : Created}
+    → Creates (settings_of d p.config) p.config.seed salt cap t r → r.answer ≡ create.Created
+    → Creates (settings_of d p.config) p.config.seed salt cap u q → q.answer ≡ create.Created
+    → {cs ds : List Call} {rs qs : List Answer} → Ran r.device t cs rs → Ran q.device u ds qs
+    → bare_calls cs ≡ bare_calls ds → bare_answers rs ≡ bare_answers qs
+two_runs parses d c made c' made' {ds = ds} ran ran' e =
+    (claim parses d c made ran).alike_answers ds e
+    ∙ ap bare_answers (sym (claim parses d c' made' ran').same)
+
+-- whatever the text, a creation with a capacity from 1 to 1,048,576 and memory that is long enough for it is not refused
+pub text_creates : {text : List ℕ} {p : Parsed} → Parses text p
+    → (d : Direction) {salt cap : ℕ} {t : Tables} {r : Created}
+    → 0 < cap → cap ≤ max_capacity → Long slot_width cap t
+    → Creates (settings_of d p.config) p.config.seed salt cap t r → r.answer ≡ create.Created
+text_creates {text} {p} parses d {salt} {cap} {t} low high long c =
+    ap (λ (x : Created). x.answer) (creates_is c)
+    ∙ create_made (settings_of d p.config) p.config.seed salt cap t (settings_judged d) low high long
+  where
+    settings_judged : (d : Direction) → is_settings_of (settings_of d p.config) ≡ true
+    settings_judged c2s = subst (λ (x : Parsed). is_settings_of x.config.c2s ≡ true) (sym (parses_is parses)) (parse_sound text).c2s_judged
+    settings_judged s2c = subst (λ (x : Parsed). is_settings_of x.config.s2c ≡ true) (sym (parses_is parses)) (parse_sound text).s2c_judged
+
+-- ---- demand 1, of any device and any memory
+
+-- a call that is refused by any number but 26 hands back the device as it was and leaves all nine tables as they were
+pub refused_changes_nothing : {v v' : Device} {t t' : Tables} {c : Call} {k : ℕ} → Answered v t c (refused k) v' t' → k ≢ refused_keeping → (v' ≡ v) × (t' ≡ t)
+refused_changes_nothing = answered_stays
+
+-- ---- the claim speaks of something: a call is answered, whatever it is handed
+
+pub parse_exists : (text : List ℕ) → (p : Parsed) × Parses text p
+parse_exists text = (parse_of text, parses_so text)
+
+pub creation_exists : (cfg : DirectionConfig) (seed salt cap : ℕ) (t : Tables) → (r : Created) × Creates cfg seed salt cap t r
+creation_exists cfg seed salt cap t = (create_of slot_width cfg seed salt cap t, creates_so cfg seed salt cap t)
+
+-- every list of calls has a run
+pub runs_exist : (v : Device) (t : Tables) (cs : List Call) → Binary64 cs → (rs : List Answer) × Ran v t cs rs
+runs_exist v t cs fit = (answers_to v t cs, ran_so v t cs fit)

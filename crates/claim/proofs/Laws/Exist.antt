@@ -1,0 +1,115 @@
+-- Each call is answered: for any device, memory and arguments there are an answer and tables at exit that the function's contract fits. So every list of calls has a run.
+use Rattle.std.specs.Prelude.{◌≡◌, refl, Bool, true, false, List, [], ◌∷◌, ℕ, zero, suc, T, Float}
+use Rattle.std.proofs.Common.{sym, ap, subst}
+use Rattle.std.specs.Float.{binary64}
+use Rattle.std.specs.Float.Ieee.{fits}
+use contract.Lifetimes.{Lfts}
+use Rattle.options.specs.Parse.{parse_of}
+use Rattle.options.specs.declared.config.DirectionConfig.{DirectionConfig}
+use Rattle.queue.specs.Calls.{payload_of}
+use Rattle.queue.specs.Refusals.{slot_width}
+use Rattle.queue.specs.Tables.{Tables, tables, after, Rows, rows_of}
+use Rattle.queue.specs.declared.answers.ReleaseAnswer.{ReleaseAnswer}
+use Rattle.queue.specs.declared.answers.ReleaseAnswer.TheVariants as left
+use Rattle.queue_laws.specs.Lent.{Ref, Lent}
+use Rattle.machine.specs.Calls.{Call, arrive, release, rebind, teardown, report, Binary64Call, Binary64}
+use Rattle.device.specs.Arrive.{arrive_of}
+use Rattle.device.specs.Creation.{create_of}
+use Rattle.device.specs.Others.{rebind_of, teardown_of, report_of}
+use Rattle.device.specs.Release.{release_of}
+use Rattle.device.specs.declared.device.Device.{Device}
+use Rattle.claim.specs.Replies.{said_of_release}
+use Rattle.claim.specs.Runs.{Parses, Creates, Arrives, Releases, Rebinds, TearsDown, Reports, Reads, Says, hands_out, none, refuses, Answered, arrives, releases, rebinds, tears_down, reports, Ran, done, next}
+use Rattle.claim.proofs.Laws.Answers.{answer_to, answers_to}
+use Rattle.claim.proofs.Laws.Lent.{arrive_free, release_rows}
+
+-- ---- arguments: of a reference a contract reads the value alone
+
+abbrev lifetimes : (n : ℕ) → Lfts n
+lifetimes zero = tt
+lifetimes (suc n) = ([], lifetimes n)
+
+abbrev ref : {X : Type 0} (written : Bool) → X → Ref written X
+ref true x = record { ref_ptr = (0, 0); ghost_name = 0; now = x }
+ref false x = record { ref_ptr = (0, 0); now = x }
+
+-- the nine tables, and what follows them
+abbrev lend : {R : Type 0} (find free copies : Bool) → Tables → R → Lent find free copies R
+lend find free copies t r = (
+  ref find t.win,
+  (
+    ref free t.free,
+    (
+      ref find t.dues,
+      (
+        ref find t.seqs,
+        (
+          ref copies t.arrivals,
+          (ref copies t.routes, (ref copies t.copy_ids, (ref copies t.lengths, (ref copies t.store, r)))),
+        ),
+      ),
+    ),
+  ),
+)
+
+-- ---- calls
+
+pub parses_so : (text : List ℕ) → Parses text (parse_of text)
+parses_so text = Parses.called (lifetimes 1) (ref false text, tt) (parse_of text) (ref false text, tt) refl refl
+
+pub creates_so : (cfg : DirectionConfig) (seed salt cap : ℕ) (t : Tables) → Creates cfg seed salt cap t (create_of slot_width cfg seed salt cap t)
+creates_so cfg seed salt cap t =
+    Creates.called (lifetimes 9) (cfg, (seed, (salt, (cap, lend false false false t tt)))) (create_of slot_width cfg seed salt cap t) (cfg, (seed, (salt, (cap, lend false false false t tt)))) refl refl refl refl refl refl
+
+-- the tables with this `free`, and with these rows
+abbrev with_free : Tables → List ℕ → Tables
+with_free t f = tables t.win f t.dues t.seqs t.arrivals t.routes t.copy_ids t.lengths t.store
+
+abbrev with_rows : Tables → Rows → Tables
+with_rows t r = tables t.win t.free t.dues t.seqs r.arrivals r.routes r.copy_ids r.lengths r.store
+
+arrives_so : (v : Device) (t : Tables) (now : Float) (bytes : List ℕ) (route : ℕ) → T (fits binary64 now)
+    → let o = arrive_of slot_width v t now bytes route in Arrives v t now bytes route o.gives o.memory
+arrives_so v t now bytes route fit =
+    let o = arrive_of slot_width v t now bytes route in
+    let same : with_free o.memory t.free ≡ o.memory = sym (ap (with_free o.memory) (arrive_free v t now bytes route)) in
+    subst (Arrives v t now bytes route o.gives) same
+    (Arrives.called (lifetimes 10) (v, lend true false true t (now, (ref false bytes, (route, tt)))) o.gives (v, lend true false true o.memory (now, (ref false bytes, (route, tt))))
+    fit refl refl refl refl refl (ap (after o.gives) same))
+
+releases_so : (v : Device) (t : Tables) (now : Float) → let o = release_of slot_width v t now in Releases v t now o.gives o.memory
+releases_so v t now =
+    let o = release_of slot_width v t now in
+    let same : with_rows o.memory (rows_of t) ≡ o.memory = sym (ap (with_rows o.memory) (release_rows v t now)) in
+    subst (Releases v t now o.gives) same
+    (Releases.called (lifetimes 9) (v, lend true true false t (now, tt)) o.gives (v, lend true true false o.memory (now, tt)) refl refl refl (ap (after o.gives) same))
+
+rebinds_so : (v : Device) (now : Float) → Rebinds v now (rebind_of v now)
+rebinds_so v now = Rebinds.called tt (v, (now, tt)) (rebind_of v now) (v, (now, tt)) refl refl refl
+
+tears_so : (v : Device) → TearsDown v (teardown_of v)
+tears_so v = TearsDown.called tt (v, tt) (teardown_of v) (v, tt) refl refl
+
+reports_so : (v : Device) → Reports v (report_of v)
+reports_so v = Reports.called tt (v, tt) (report_of v) (v, tt) refl refl
+
+reads_so : (store : List ℕ) (slot len : ℕ) → Reads store slot len (payload_of slot_width store slot len)
+reads_so store slot len = Reads.called (lifetimes 1) (ref false store, (slot, (len, tt))) (ref false (payload_of slot_width store slot len)) (ref false store, (slot, (len, tt))) refl refl refl refl
+
+says_so : (store : List ℕ) (a : ReleaseAnswer) → Says store a (said_of_release slot_width store a)
+says_so store (left.Released c) = hands_out (reads_so store c.slot c.length)
+says_so store left.NoneDue = none
+says_so store (left.Refused k) = refuses
+
+answered_so : (v : Device) (t : Tables) (c : Call) → Binary64Call c → Answered v t c (answer_to v t c).reply (answer_to v t c).device (answer_to v t c).tables
+unfolding answer_to
+answered_so v t (arrive now bytes route) fit = arrives (arrives_so v t now bytes route fit)
+answered_so v t (release now) fit = releases (releases_so v t now) (says_so _ _)
+answered_so v t (rebind now) fit = rebinds (rebinds_so v now)
+answered_so v t teardown fit = tears_down (tears_so v)
+answered_so v t report fit = reports (reports_so v)
+
+pub ran_so : (v : Device) (t : Tables) (cs : List Call) → Binary64 cs → Ran v t cs (answers_to v t cs)
+unfolding answers_to
+ran_so v t [] fit = done
+ran_so v t (c ∷ cs) fit = next (answered_so v t c fit.0) (ran_so (answer_to v t c).device (answer_to v t c).tables cs fit.1)
