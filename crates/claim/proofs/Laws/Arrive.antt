@@ -10,7 +10,7 @@ use Rattle.numbers.specs.Laws.Bounded.{instant_bounded}
 use Rattle.numbers.specs.Laws.Kinds.{plus_number, number_is}
 use Rattle.numbers.specs.Laws.Limits.{length_within}
 use Rattle.numbers.specs.Limits.{is_length_of, is_counter_of}
-use Rattle.steps.specs.Laws.Sound.{DueFrom}
+use Rattle.steps.proofs.Sound.{DueFrom}
 use Rattle.steps.specs.declared.decision.Decision.{Decision}
 use Rattle.steps.specs.declared.decision.Decision.TheVariants.{DropRandom, DropGe, DropMtu, DropBlackout, DropKillHold, Enqueue, KillRst}
 use Rattle.accounts.specs.Accountant.{resets_of}

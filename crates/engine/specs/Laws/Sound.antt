@@ -18,7 +18,7 @@ use Rattle.judgement.specs.Settings.{is_settings_of}
 use Rattle.judgement.specs.Laws.Parsed.{default_judged}
 use Rattle.options.specs.declared.config.DirectionConfig.{DirectionConfig}
 use Rattle.steps.specs.Laws.Credit.{longest_planned, full_credit}
-use Rattle.steps.specs.Laws.Sound.{SoundScalars, SoundState, DueFrom, arrived_sound}
+use Rattle.steps.proofs.Sound.{SoundScalars, SoundState, DueFrom, arrived_sound}
 use Rattle.judgement.specs.Scalars.{is_rate, scalars_of, are_scalars_of}
 use Rattle.engine.specs.Calls.{new_engine_of, decide_given_of, decide_of}
 use Rattle.engine.specs.Changes.{with_overflow, overflowed_of, rebound_of}

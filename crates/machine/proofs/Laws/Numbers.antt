@@ -5,7 +5,7 @@ use Rattle.numbers.specs.Laws.Bounded.{instant_bounded}
 use Rattle.numbers.specs.Laws.Limits.{length_within}
 use Rattle.numbers.specs.Laws.NotNan.{cond_has}
 use Rattle.judgement.specs.Settings.{is_settings_of}
-use Rattle.steps.specs.Laws.Sound.{From, DueFrom}
+use Rattle.steps.proofs.Sound.{From, DueFrom}
 use Rattle.steps.specs.declared.decision.Decision.{Decision}
 use Rattle.steps.specs.declared.decision.Decision.TheVariants.{DropRandom, DropGe, DropMtu, DropBlackout, DropKillHold, Enqueue, KillRst}
 use Rattle.engine.specs.Laws.Sound.{SoundEngine, fresh_sound, overflowed_sound, rebound_sound, passed_sound}
