@@ -9,6 +9,7 @@ use numbers::{REFUSED_COUNTER, REFUSED_INSTANT, REFUSED_LENGTH, REFUSED_SETTINGS
 use options::DirectionConfig;
 
 // The number of the first test that fails, in document 01's order, or 0.
+#[tactic(auto, unfolding(numbers::specs::Checks::first_failing))]
 fn refusal(settings: bool, instant: bool, short: bool, counters: bool) -> u32
     ensures { result ≡ first_failing (engine_checks settings instant short counters) }
 {
