@@ -6,7 +6,6 @@ use Rattle.queue.specs.declared.queue.ImpairQueue.{ImpairQueue}
 use Rattle.queue.specs.declared.answers.Pushed.{Pushed}
 use Rattle.queue.specs.declared.answers.PushAnswer.{PushAnswer}
 use Rattle.queue.specs.declared.answers.PushAnswer.TheVariants as push
-use Rattle.queue.specs.declared.answers.Drained.{Drained}
 use Rattle.queue.specs.declared.answers.DrainAnswer.{DrainAnswer}
 use Rattle.queue.specs.declared.answers.DrainAnswer.TheVariants as drain
 use Rattle.admission.specs.declared.admitted.Admitted.{Admitted}

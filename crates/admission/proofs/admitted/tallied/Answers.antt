@@ -1,6 +1,5 @@
 -- By what the push answered.
 use Rattle.admission.proofs.TallySteps.{copies_fit, tallied_some, tallied_full, tallied_other}
-use borrow.Author.Rules.{rules}
 use Rattle.admission.proofs.admitted.tallied.Goals as goal
 
 pub overflow_sub-asked : goal.overflow_sub-asked

@@ -1,6 +1,5 @@
 -- By what the drain answered.
 use Rattle.admission.specs.Admitted.{torn_by, torn_of}
-use borrow.Author.Rules.{rules}
 use Rattle.admission.proofs.admitted.torn.Goals as goal
 
 pub returns-in-Drained : goal.returns-in-Drained

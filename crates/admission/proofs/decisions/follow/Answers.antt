@@ -2,7 +2,6 @@
 use Rattle.queue.specs.Refusals.{slot_width}
 use Rattle.queue.specs.Tables.{tables}
 use Rattle.admission.proofs.FollowSteps.{pushed_within, enqueue_follows, reset_follows, drop_follows}
-use borrow.Author.Rules.{rules}
 use Rattle.admission.proofs.decisions.follow.Goals as goal
 
 pub tallied-requires : goal.tallied-requires

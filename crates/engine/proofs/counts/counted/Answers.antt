@@ -4,7 +4,6 @@ use Rattle.engine.specs.Counts.{counted_of}
 use Rattle.engine.specs.Laws.Counts.{Single, one_small, counts_single}
 use Rattle.accounts.specs.Laws.Small.{SmallStats, small_stats}
 use Rattle.numbers.specs.Laws.Limits.{length_within}
-use borrow.Author.Rules.{rules}
 use Rattle.engine.proofs.counts.counted.Goals as goal
 use Rattle.engine.proofs.counts.counted.Goals.{After-counts_of-c, Start}
 

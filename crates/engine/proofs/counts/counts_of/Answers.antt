@@ -1,6 +1,5 @@
 -- One case for each decision.
 use Rattle.engine.specs.Counts.{counts_of}
-use borrow.Author.Rules.{rules}
 use Rattle.engine.proofs.counts.counts_of.Goals as goal
 
 pub returns-in-DropRandom : goal.returns-in-DropRandom

@@ -1,7 +1,6 @@
 -- Each field by the contract of what it is made with.
 use Rattle.engine.specs.Engine.{fresh_of}
 use lib.Ieee.{of_int, of_bits}
-use borrow.Author.Rules.{rules}
 use Rattle.engine.proofs.creation.fresh.Goals as goal
 
 pub returns : goal.returns

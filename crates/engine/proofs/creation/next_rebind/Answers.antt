@@ -2,7 +2,6 @@
 use Rattle.engine.specs.Engine.{next_rebind_of}
 use borrow.Author.Tests.{lt-ltb, le-ltb}
 use lib.Ieee.{div, of_bits}
-use borrow.Author.Rules.{rules}
 use Rattle.engine.proofs.creation.next_rebind.Goals as goal
 
 pub returns-then-nat_change_every_ms-gt0 : goal.returns-then-nat_change_every_ms-gt0

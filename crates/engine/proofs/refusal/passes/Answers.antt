@@ -1,6 +1,5 @@
 -- The judgement of each part.
 use Rattle.judgement.specs.Settings.{is_settings_of}
-use borrow.Author.Rules.{rules}
 use Rattle.engine.proofs.refusal.passes.Goals as goal
 
 pub returns : goal.returns

@@ -2,7 +2,6 @@
 use Rattle.engine.specs.Engine.{gate_at_of}
 use Rattle.steps.specs.Gate.{gate_of}
 use mathlib.Core.Path.{sym, ◌∙◌}
-use borrow.Author.Rules.{rules}
 use Rattle.engine.proofs.windows.gate_at.Goals as goal
 
 pub returns-in-Open : goal.returns-in-Open

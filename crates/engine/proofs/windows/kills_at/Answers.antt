@@ -1,6 +1,5 @@
 -- No entries, or the scan.
 use Rattle.steps.specs.Gate.{kill_gate_of}
-use borrow.Author.Rules.{rules}
 use Rattle.engine.proofs.windows.kills_at.Goals as goal
 
 pub returns-then-count-eq0 : goal.returns-then-count-eq0

@@ -1,6 +1,5 @@
 -- One case for each answer of the windows.
 use Rattle.steps.specs.Arrival.{arrived_of}
-use borrow.Author.Rules.{rules}
 use Rattle.steps.proofs.arrival.arrived.Goals as goal
 
 pub returns-in-Open : goal.returns-in-Open

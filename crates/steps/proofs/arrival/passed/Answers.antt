@@ -1,6 +1,5 @@
 -- Each return is the definition's by the tests before it.
 use Rattle.steps.specs.Arrival.{passed_of, from_ge, from_mtu}
-use borrow.Author.Rules.{rules}
 use Rattle.steps.proofs.arrival.passed.Goals as goal
 
 pub returns-then-loss : goal.returns-then-loss

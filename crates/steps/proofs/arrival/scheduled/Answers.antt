@@ -1,6 +1,5 @@
 -- The steps in their order, each by its contract.
 use Rattle.steps.specs.Arrival.{scheduled_of}
-use borrow.Author.Rules.{rules}
 use Rattle.steps.proofs.arrival.scheduled.Goals as goal
 
 pub returns : goal.returns

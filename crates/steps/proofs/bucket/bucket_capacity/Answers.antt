@@ -1,7 +1,6 @@
 -- The burst where it is above 0, else what the rate gives.
 use Rattle.steps.specs.Bucket.{bucket_capacity_of, rate_capacity_of}
 use borrow.Author.Tests.{lt-ltb, le-ltb}
-use borrow.Author.Rules.{rules}
 use Rattle.steps.proofs.bucket.bucket_capacity.Goals as goal
 
 pub returns-then-rate_burst_bytes-gt0 : goal.returns-then-rate_burst_bytes-gt0

@@ -1,7 +1,6 @@
 -- Without a rate the credit stays; else it is refilled and charged once.
 use Rattle.steps.specs.Bucket.{charged_of}
 use lib.Ieee.{of_int, of_bits}
-use borrow.Author.Rules.{rules}
 use Rattle.steps.proofs.bucket.charged.Goals as goal
 
 pub returns-in-Absent : goal.returns-in-Absent

@@ -1,7 +1,6 @@
 -- Two cases.
 use Rattle.steps.specs.Bucket.{is_deferred_of}
 use lib.Ieee.{of_int, of_bits}
-use borrow.Author.Rules.{rules}
 use Rattle.steps.proofs.bucket.is_deferred.Goals as goal
 
 pub returns-in-Absent : goal.returns-in-Absent

@@ -1,6 +1,5 @@
 -- Two cases.
 use Rattle.steps.specs.Bucket.{last_refill_of}
-use borrow.Author.Rules.{rules}
 use Rattle.steps.proofs.bucket.last_refill.Goals as goal
 
 pub returns-in-Absent : goal.returns-in-Absent

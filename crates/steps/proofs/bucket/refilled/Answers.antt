@@ -1,7 +1,6 @@
 -- The same operations in the same order.
 use Rattle.numbers.specs.Credit.{refilled_of}
 use lib.Ieee.{of_int, of_bits}
-use borrow.Author.Rules.{rules}
 use Rattle.steps.proofs.bucket.refilled.Goals as goal
 
 pub returns : goal.returns

@@ -1,6 +1,5 @@
 -- One draw for the flip, and the rest is the second draw's.
 use Rattle.steps.specs.Burst.{burst_loss_of}
-use borrow.Author.Rules.{rules}
 use Rattle.steps.proofs.burst.burst_loss.Goals as goal
 
 pub returns-in-Absent : goal.returns-in-Absent

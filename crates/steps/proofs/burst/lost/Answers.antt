@@ -1,6 +1,5 @@
 -- The draw is made in the bad state alone.
 use Rattle.steps.specs.Burst.{lost_of}
-use borrow.Author.Rules.{rules}
 use Rattle.steps.proofs.burst.lost.Goals as goal
 
 pub returns-then-now_bad : goal.returns-then-now_bad

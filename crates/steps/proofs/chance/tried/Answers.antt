@@ -1,7 +1,6 @@
 -- Drawn where the probability is above 0, else nothing happens.
 use Rattle.steps.specs.Chance.{chance_of}
 use lib.Ieee.{of_int, of_bits}
-use borrow.Author.Rules.{rules}
 use Rattle.steps.proofs.chance.tried.Goals as goal
 
 pub returns-then-p : goal.returns-then-p

@@ -1,7 +1,6 @@
 -- Drawn where the jitter is above 0, else nothing happens.
 use Rattle.steps.specs.Due.{jittered_of}
 use lib.Ieee.{of_int, of_bits}
-use borrow.Author.Rules.{rules}
 use Rattle.steps.proofs.due.jittered.Goals as goal
 
 pub returns-then-jitter_ms : goal.returns-then-jitter_ms

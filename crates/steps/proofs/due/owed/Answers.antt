@@ -2,7 +2,6 @@
 use Rattle.numbers.specs.Credit.{wait_of}
 use Rattle.steps.specs.Due.{owed_of, waited_of}
 use lib.Ieee.{of_int, of_bits}
-use borrow.Author.Rules.{rules}
 use Rattle.steps.proofs.due.owed.Goals as goal
 
 pub returns-in-Absent : goal.returns-in-Absent

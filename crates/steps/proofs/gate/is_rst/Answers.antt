@@ -1,6 +1,5 @@
 -- Two cases.
 use Rattle.steps.specs.Gate.{is_rst_of}
-use borrow.Author.Rules.{rules}
 use Rattle.steps.proofs.gate.is_rst.Goals as goal
 
 pub returns-in-Rst : goal.returns-in-Rst

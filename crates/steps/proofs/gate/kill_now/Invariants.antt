@@ -1,18 +1,8 @@
 -- What is left of the counted kills decides.
-use borrow.Author.Rules.{rules}
-use native.Mathlib.Omega.{arith}
-use mathlib.Core.Path.{◌≡◌, sym, ap, ◌∙◌}
-use mathlib.Core.Bool.{◌&&◌, ◌||◌, beq}
-use mathlib.Core.List.{List}
-use Prim.Native.Nat.{◌+◌, ◌-◌, ◌≤◌}
-use lib.ListN.{length, take, drop}
-use Rattle.numbers.specs.Limits.{max_entries}
-use Rattle.numbers.specs.Laws.Counted.{counted_step, counted_end}
-use Rattle.settings.specs.Windows.{no_window}
-use Rattle.settings.specs.declared.kill.KillStyle.TheVariants.{Rst}
-use Rattle.settings.specs.declared.kill.TcpKill.{TcpKill}
+use mathlib.Core.Path.{◌≡◌}
+use Prim.Native.Nat.{◌-◌, ◌≤◌}
+use lib.ListN.{take, drop}
 use Rattle.steps.specs.Gate.{kill_now_of}
-use Rattle.steps.specs.Laws.Entries.{CountedEntries, counted_entries}
 use Rattle.steps.proofs.gate.kill_now.Given as goal
 
 abbrev pub invariant-loop-i : goal.invariant-loop-i

@@ -1,6 +1,5 @@
 -- Two cases.
 use Rattle.steps.specs.Gate.{style_gate_of}
-use borrow.Author.Rules.{rules}
 use Rattle.steps.proofs.gate.style_gate.Goals as goal
 
 pub returns-in-Rst : goal.returns-in-Rst

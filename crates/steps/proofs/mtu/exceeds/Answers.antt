@@ -1,6 +1,5 @@
 -- Two cases.
 use Rattle.steps.specs.Mtu.{exceeds_of}
-use borrow.Author.Rules.{rules}
 use Rattle.steps.proofs.mtu.exceeds.Goals as goal
 
 pub returns-in-Absent : goal.returns-in-Absent

@@ -1,7 +1,6 @@
 -- The parts by their contracts.
 use Rattle.engine.specs.Decide.{decide_passed_of, after_of}
 use Rattle.engine.specs.Engine.{state_of}
-use borrow.Author.Rules.{rules}
 use Rattle.engine.proofs.engine.ArrivalEngine.decide_passed.Goals as goal
 
 pub returns : goal.returns

@@ -1,7 +1,6 @@
 -- Each return by its step. What is not refused has passed what the steps inside ask.
 use mathlib.Core.Bool.{true}
 use Rattle.engine.proofs.DecideSteps.{decide_refused, decide_asks, decide_done}
-use borrow.Author.Rules.{rules}
 use Rattle.engine.proofs.engine.ArrivalEngine.decide_unchecked.Goals as goal
 
 pub returns-then-k-ne0 : goal.returns-then-k-ne0

@@ -1,7 +1,6 @@
 -- Refused, or the scans of the kills and the blackouts.
 use borrow.Author.Tests.{eq-eqb, ne_eqb}
 use Rattle.engine.specs.Calls.{hold_now_of}
-use borrow.Author.Rules.{rules}
 use Rattle.engine.proofs.engine.ArrivalEngine.hold_now.Goals as goal
 
 pub returns-then-k-ne0 : goal.returns-then-k-ne0

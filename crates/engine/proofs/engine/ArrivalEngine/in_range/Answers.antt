@@ -1,5 +1,4 @@
 -- Both tests by their contracts.
-use borrow.Author.Rules.{rules}
 use Rattle.engine.proofs.engine.ArrivalEngine.in_range.Goals as goal
 
 pub returns : goal.returns

@@ -1,5 +1,4 @@
 -- The settings by their contract, the rest by the call inside.
-use borrow.Author.Rules.{rules}
 use Rattle.engine.proofs.engine.ArrivalEngine.judged.Goals as goal
 
 pub returns : goal.returns

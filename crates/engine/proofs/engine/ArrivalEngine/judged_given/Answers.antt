@@ -1,6 +1,5 @@
 -- The counters by their contract.
 use Rattle.engine.specs.Refusals.{judged_given_of}
-use borrow.Author.Rules.{rules}
 use Rattle.engine.proofs.engine.ArrivalEngine.judged_given.Goals as goal
 
 pub returns : goal.returns

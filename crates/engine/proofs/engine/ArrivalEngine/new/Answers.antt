@@ -1,8 +1,6 @@
 -- The settings are judged first.
 use Rattle.engine.specs.Calls.{new_engine_of}
-use borrow.Author.Tests.{not-true, not-false}
 use mathlib.Core.Path.{sym, ◌∙◌}
-use borrow.Author.Rules.{rules}
 use Rattle.engine.proofs.engine.ArrivalEngine.new.Goals as goal
 
 pub returns-then-not-is_settings : goal.returns-then-not-is_settings

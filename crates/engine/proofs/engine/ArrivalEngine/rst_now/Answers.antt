@@ -1,7 +1,6 @@
 -- Refused, or the scan of the kills.
 use borrow.Author.Tests.{eq-eqb, ne_eqb}
 use Rattle.engine.specs.Calls.{rst_now_of}
-use borrow.Author.Rules.{rules}
 use Rattle.engine.proofs.engine.ArrivalEngine.rst_now.Goals as goal
 
 pub returns-then-k-ne0 : goal.returns-then-k-ne0

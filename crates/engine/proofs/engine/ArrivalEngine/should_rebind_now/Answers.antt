@@ -7,7 +7,6 @@ use Rattle.engine.specs.Laws.Refusals.{no_refusal}
 use mathlib.Core.Bool.{true}
 use mathlib.Core.Path.{sym, ◌∙◌}
 use Rattle.numbers.specs.Laws.Limits.{counter_below}
-use borrow.Author.Rules.{rules}
 use Rattle.engine.proofs.engine.ArrivalEngine.should_rebind_now.Goals as goal
 
 pub returns-then-k-ne0 : goal.returns-then-k-ne0

@@ -7,7 +7,6 @@ use Rattle.engine.specs.Laws.Refusals.{no_refusal}
 use mathlib.Core.Bool.{true}
 use mathlib.Core.Path.{sym, ◌∙◌}
 use Rattle.accounts.specs.Laws.Small.{small_stats}
-use borrow.Author.Rules.{rules}
 use Rattle.engine.proofs.engine.ArrivalEngine.stats_inc_overflow.Goals as goal
 
 pub returns-then-k-ne0 : goal.returns-then-k-ne0

@@ -1,6 +1,5 @@
 -- One case for each decision.
 use Rattle.steps.specs.Decision.{is_drop_of}
-use borrow.Author.Rules.{rules}
 use Rattle.steps.proofs.decision.Decision.is_drop.Goals as goal
 
 pub returns-in-DropRandom : goal.returns-in-DropRandom
