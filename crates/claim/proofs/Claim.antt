@@ -10,8 +10,8 @@
 --   * no call is refused but by 21, 22 or 25, and a refused call leaves the device and all nine tables as they were.
 --
 -- The device of a refused creation has all of this too, with the machine of the default settings, the generator's seed 0 and capacity 1
--- (`refused-creation-agrees`). Of any device and any memory, altered ones too, a call that is refused by any number but 26 changes nothing
--- (`refused-changes-nothing`, demand 1). And none of this speaks of nothing: every list of calls has a run, on any device and memory (`runs-exist`).
+-- (`refused_creation_agrees`). Of any device and any memory, altered ones too, a call that is refused by any number but 26 changes nothing
+-- (`refused_changes_nothing`, demand 1). And none of this speaks of nothing: every list of calls has a run, on any device and memory (`runs_exist`).
 --
 -- It rests on the contracts of `parse_config`, `create`, `arrive`, `release`, `payload`, `rebind`, `teardown` and `report`, each proved of its function: a run
 -- (Runs) is a list of calls for which these contracts hold, each handed the device and the tables that the last one left. An instant handed to `arrive` is a

@@ -1,5 +1,5 @@
 -- A machine whose copies have lost their bytes and routes answers calls that have lost theirs as the machine answers the calls: nothing else looks at them.
-use Rattle.std.specs.Prelude.{◌≡◌, refl, Bool, true, false, cond, List, [], ◌∷◌, ◌++◌, map, ℕ, suc, ◌+◌, ltb, eqb, Float, length}
+use Rattle.std.specs.Prelude.{◌≡◌, refl, Bool, true, false, cond, List, [], ◌∷◌, ◌++◌, map, ℕ, suc, ltb, eqb, Float, length}
 use Rattle.std.proofs.Common.{ap, ◌∙◌}
 use Rattle.std.specs.Float.Ieee.{le}
 use Rattle.numbers.specs.Checks.{first_failing}

@@ -1,6 +1,5 @@
 -- The counter by its contract.
 use Rattle.engine.specs.Changes.{with_overflow}
-use borrow.Author.Rules.{rules}
 use Rattle.device.proofs.arrive.moved.Goals as goal
 
 pub returns : goal.returns

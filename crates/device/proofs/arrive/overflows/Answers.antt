@@ -1,7 +1,6 @@
 -- One counter changes.
 use Rattle.engine.specs.Changes.{with_others}
 use mathlib.Core.Path.{refl}
-use borrow.Author.Rules.{rules}
 use Rattle.device.proofs.arrive.overflows.Goals as goal
 
 pub returns : goal.returns

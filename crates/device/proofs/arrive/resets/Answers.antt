@@ -1,7 +1,6 @@
 -- One counter changes.
 use Rattle.accounts.specs.Accountant.{resets_of}
 use mathlib.Core.Path.{refl}
-use borrow.Author.Rules.{rules}
 use Rattle.device.proofs.arrive.resets.Goals as goal
 
 pub returns : goal.returns

@@ -1,6 +1,5 @@
 -- The parts by their contracts.
 use Rattle.device.specs.Arrive.{settled_of}
-use borrow.Author.Rules.{rules}
 use Rattle.device.proofs.arrive.settled.Goals as goal
 
 pub returns : goal.returns

@@ -1,5 +1,4 @@
 -- The accounts by their contract.
-use borrow.Author.Rules.{rules}
 use Rattle.device.proofs.creation.fresh.Goals as goal
 
 pub returns : goal.returns

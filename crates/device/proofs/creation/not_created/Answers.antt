@@ -1,6 +1,5 @@
 -- The device by the contracts of its parts.
 use Rattle.device.proofs.CreationSteps.{not_created_is}
-use borrow.Author.Rules.{rules}
 use Rattle.device.proofs.creation.not_created.Goals as goal
 
 pub returns : goal.returns

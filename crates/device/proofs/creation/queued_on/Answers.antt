@@ -1,6 +1,5 @@
 -- Each answer of the queue by its step.
 use Rattle.device.proofs.CreationSteps.{queued_done, queued_refused}
-use borrow.Author.Rules.{rules}
 use Rattle.device.proofs.creation.queued_on.Goals as goal
 
 pub returns-in-Created : goal.returns-in-Created

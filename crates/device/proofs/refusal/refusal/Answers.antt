@@ -1,6 +1,5 @@
 -- The tests in their order.
 use Rattle.numbers.specs.Checks.{first_failing}
-use borrow.Author.Tests.{not-true, not-false}
 use Rattle.device.proofs.refusal.refusal.Goals as goal
 
 pub returns-then-not-memory : goal.returns-then-not-memory

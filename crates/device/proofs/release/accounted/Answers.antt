@@ -1,6 +1,5 @@
 -- The parts by their contracts.
 use Rattle.device.specs.Release.{accounted_of}
-use borrow.Author.Rules.{rules}
 use Rattle.device.proofs.release.accounted.Goals as goal
 
 pub returns : goal.returns

@@ -1,6 +1,5 @@
 -- The answer of the accounts says which case it is.
 use Rattle.device.specs.Release.{send_answer_of}
-use borrow.Author.Rules.{rules}
 use Rattle.device.proofs.release.send_answer.Goals as goal
 
 pub returns-in-Done : goal.returns-in-Done

@@ -1,6 +1,5 @@
 -- Each answer of the queue by its step.
 use Rattle.device.proofs.ReleaseSteps.{sent_copy, sent_none, sent_refused}
-use borrow.Author.Rules.{rules}
 use Rattle.device.proofs.release.sending_of.Goals as goal
 
 pub returns-in-Released : goal.returns-in-Released

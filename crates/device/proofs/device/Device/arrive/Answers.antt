@@ -2,7 +2,6 @@
 use Rattle.device.proofs.ArriveSteps.{arrive_refused, arrive_unrefused, decided_is, arrive_done, arrive_room}
 use Rattle.queue.specs.Refusals.{slot_width}
 use Rattle.queue.specs.Tables.{tables}
-use borrow.Author.Rules.{rules}
 use Rattle.device.proofs.device.Device.arrive.Goals as goal
 
 pub returns-then-number-ne0 : goal.returns-then-number-ne0

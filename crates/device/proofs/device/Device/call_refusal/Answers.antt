@@ -1,6 +1,5 @@
 -- The counters by their contract.
 use Rattle.device.specs.Refusals.{call_refusal}
-use borrow.Author.Rules.{rules}
 use Rattle.device.proofs.device.Device.call_refusal.Goals as goal
 
 pub returns : goal.returns

@@ -1,6 +1,5 @@
 -- Each outcome of the engine by its step.
 use Rattle.device.proofs.CreationSteps.{create_done, create_refused}
-use borrow.Author.Rules.{rules}
 use Rattle.device.proofs.device.Device.create.Goals as goal
 
 pub returns-in-Done : goal.returns-in-Done

@@ -1,6 +1,5 @@
 -- The tests by their contracts, in their order.
 use Rattle.machine.specs.Machine.{in_range}
-use borrow.Author.Rules.{rules}
 use Rattle.device.proofs.device.Device.in_range.Goals as goal
 
 pub returns : goal.returns

@@ -1,6 +1,5 @@
 -- Each return by its step.
 use Rattle.device.proofs.OtherSteps.{rebind_refused, rebind_said, rebind_altered}
-use borrow.Author.Rules.{rules}
 use Rattle.device.proofs.device.Device.rebind.Goals as goal
 
 pub returns-then-number-ne0 : goal.returns-then-number-ne0

@@ -3,7 +3,6 @@ use Rattle.device.proofs.ReleaseSteps.{release_refused, release_done}
 use Rattle.queue.specs.Refusals.{slot_width}
 use Rattle.queue.specs.Tables.{tables}
 use mathlib.Core.Path.{refl}
-use borrow.Author.Rules.{rules}
 use Rattle.device.proofs.device.Device.release.Goals as goal
 
 pub returns-then-number-ne0 : goal.returns-then-number-ne0

@@ -1,6 +1,5 @@
 -- Each return by its step.
 use Rattle.device.proofs.OtherSteps.{report_refused, report_done}
-use borrow.Author.Rules.{rules}
 use Rattle.device.proofs.device.Device.report.Goals as goal
 
 pub returns-then-number-ne0 : goal.returns-then-number-ne0

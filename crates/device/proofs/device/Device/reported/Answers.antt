@@ -1,5 +1,4 @@
 -- The copies held by their contract.
-use borrow.Author.Rules.{rules}
 use Rattle.device.proofs.device.Device.reported.Goals as goal
 
 pub returns : goal.returns

@@ -5,7 +5,6 @@ use Rattle.numbers.specs.Laws.Limits.{counter_below}
 use mathlib.Core.Path.{sym, ◌∙◌}
 use mathlib.Core.Bool.{true}
 use native.Mathlib.Omega.{arith}
-use borrow.Author.Rules.{rules}
 use Rattle.device.proofs.device.Device.teardown.Goals as goal
 
 pub returns-then-number-ne0 : goal.returns-then-number-ne0
