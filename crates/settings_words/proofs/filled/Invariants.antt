@@ -1,5 +1,4 @@
 -- The loop ends after the last letter, and the lent buffer keeps its length.
-use borrow.Author.Rules.{rules}
 use lib.ListN.{length}
 use mathlib.Core.Path.{◌≡◌}
 use Prim.Native.Nat.{◌≤◌, ◌-◌}

@@ -1,6 +1,5 @@
 -- What equals itself is no NaN, so it has a bit pattern.
 use Rattle.numbers.specs.Laws.Kinds.{self_equal, number_is}
-use borrow.Author.Rules.{rules}
 use Rattle.output.proofs.collected.float.Goals as goal
 
 pub float_to_bits-x : goal.float_to_bits-x

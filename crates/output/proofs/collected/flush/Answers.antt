@@ -1,7 +1,6 @@
 -- As many bytes as are collected are lent from the front of the buffer.
 use native.Mathlib.Omega.{arith}
 use lib.ListN.{length-take}
-use borrow.Author.Rules.{rules}
 use Rattle.output.proofs.collected.flush.Goals as goal
 
 pub slice_bounds-write_all-end : goal.slice_bounds-write_all-end

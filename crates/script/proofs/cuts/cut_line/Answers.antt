@@ -1,5 +1,5 @@
 -- What is left of the chunk gives the same as the whole: in each turn one byte goes into the line.
-use Rattle.std.proofs.Common.{◌≡◌, ℕ, ◌+◌, ◌-◌, ◌<◌, ◌≤◌, true, false, List, length, get_or, drop, set, sym, refl, ◌∙◌, length-set, rules, eq-eqb, ne_eqb}
+use Rattle.std.proofs.Common.{◌≡◌, ℕ, ◌+◌, ◌<◌, ◌≤◌, true, false, List, length, get_or, drop, set, sym, refl, ◌∙◌, length-set, eq-eqb, ne_eqb}
 use Rattle.script.specs.declared.lines.Line.{Line}
 use Rattle.script.specs.Lines.{with_byte_of}
 use Rattle.script.specs.Cuts.{cut_from}

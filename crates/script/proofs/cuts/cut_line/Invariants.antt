@@ -1,9 +1,6 @@
 -- What is left of the chunk gives the same as the whole: in each turn one byte goes into the line.
-use Rattle.std.proofs.Common.{◌≡◌, ℕ, ◌+◌, ◌-◌, ◌<◌, ◌≤◌, true, false, List, length, get_or, drop, set, sym, refl, ◌∙◌, length-set, rules, eq-eqb, ne_eqb}
-use Rattle.script.specs.declared.lines.Line.{Line}
-use Rattle.script.specs.Lines.{with_byte_of}
+use Rattle.std.proofs.Common.{◌≡◌, ◌-◌, length, drop}
 use Rattle.script.specs.Cuts.{cut_from}
-use Rattle.values.specs.Laws.Scan.{step, end}
 use Rattle.script.proofs.cuts.cut_line.Given as goal
 
 abbrev pub invariant-loop-next : goal.invariant-loop-next

@@ -1,5 +1,5 @@
 -- What is left of the digits gives the same as the whole: in each turn two digits go, and the text has their byte.
-use Rattle.std.proofs.Common.{◌≡◌, ℕ, suc, ◌+◌, ◌-◌, ◌<◌, ◌≤◌, List, ◌∷◌, length, get_or, drop, set, sym, refl, ap, ◌∙◌, add-one, arith, length-set, drop_of_length-le, drop-cons, rules, le-ltb, lt-ltb}
+use Rattle.std.proofs.Common.{◌≡◌, ℕ, suc, ◌+◌, ◌<◌, ◌≤◌, List, ◌∷◌, length, get_or, drop, set, sym, refl, ap, ◌∙◌, add-one, arith, length-set, drop_of_length-le, drop-cons, rules, le-ltb, lt-ltb}
 use Rattle.script.specs.declared.hex.Decoded.TheVariants.{Bytes, Wrong}
 use Rattle.script.specs.Hex.{pair_of, decode_from}
 use native.Mathlib.Numerals.{add-two}

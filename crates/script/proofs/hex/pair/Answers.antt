@@ -1,6 +1,6 @@
 -- Each of the three ends is a case of the definition.
 use Rattle.script.specs.Hex.{digit_of, pair_of}
-use Rattle.std.proofs.Common.{◌≡◌, ℕ, ◌+◌, ◌*◌, ◌<◌, ◌≤◌, rules, le-leb}
+use Rattle.std.proofs.Common.{◌≡◌, ℕ, ◌+◌, ◌*◌, ◌<◌, ◌≤◌, le-leb}
 use borrow.Author.Tests.{lt-leb}
 use Rattle.script.proofs.hex.pair.Goals as goal
 

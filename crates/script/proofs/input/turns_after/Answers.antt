@@ -1,5 +1,4 @@
 -- Each event is a case of the definition.
-use Rattle.std.proofs.Common.{rules}
 use Rattle.script.proofs.input.turns_after.Goals as goal
 
 pub returns-in-Whole : goal.returns-in-Whole

@@ -2,7 +2,7 @@
 use Rattle.script.specs.declared.lines.Beyond.TheVariants.{Other}
 use Rattle.script.specs.declared.lines.Beyond.{Beyond}
 use Rattle.script.specs.Lines.{digit_more, further_of}
-use Rattle.std.proofs.Common.{◌≡◌, ℕ, ◌<◌, ◌≤◌, rules, le-ltb, lt-ltb}
+use Rattle.std.proofs.Common.{◌≡◌, ℕ, ◌<◌, ◌≤◌, le-ltb, lt-ltb}
 use Rattle.script.proofs.lines.further.Goals as goal
 
 more : (x y : Beyond) (d v : ℕ) → x ≡ y → d ≡ v → d < 16 → digit_more y ≡ further_of x v

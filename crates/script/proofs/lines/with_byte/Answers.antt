@@ -3,7 +3,7 @@ use Rattle.script.specs.declared.lines.Line.{Line}
 use Rattle.script.specs.declared.lines.Beyond.{Beyond}
 use Rattle.script.specs.Lines.{further_of, with_byte_of}
 use Rattle.script.specs.Hex.{digit_of}
-use Rattle.std.proofs.Common.{◌≡◌, ℕ, ◌+◌, ◌<◌, ◌≤◌, List, length, set, ap, arith, length-set, rules, le-ltb, lt-ltb}
+use Rattle.std.proofs.Common.{◌≡◌, ℕ, ◌+◌, ◌<◌, ◌≤◌, List, length, set, ap, arith, length-set, le-ltb, lt-ltb}
 use Rattle.script.proofs.lines.with_byte.Goals as goal
 
 room : (k u : List ℕ) (l : Line) (b : ℕ) → u ≡ set k l.length b → l.length < length u → record { length = l.length + 1; beyond = l.beyond } ≡ with_byte_of (length k) l b

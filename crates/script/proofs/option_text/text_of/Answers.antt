@@ -1,6 +1,5 @@
 -- Each of the three ends is a case of the definition.
-use Rattle.std.proofs.Common.{sym, ◌∙◌, rules}
-use borrow.Author.Tests.{not-true, not-false}
+use Rattle.std.proofs.Common.{sym, ◌∙◌}
 use Rattle.script.specs.OptionText.{text_of}
 use Rattle.script.proofs.option_text.text_of.Goals as goal
 

@@ -1,6 +1,6 @@
 -- A store at a place that is not there changes nothing.
 use lib.Seq.{set_out}
-use Rattle.std.proofs.Common.{sym, rules}
+use Rattle.std.proofs.Common.{sym}
 use Rattle.script.proofs.parts.put.Goals as goal
 
 pub returns-else-i-s : goal.returns-else-i-s

@@ -1,5 +1,5 @@
 -- A pattern above that of the infinity, without its sign, is a NaN's.
-use Rattle.std.proofs.Common.{◌≡◌, ℕ, ◌%◌, ◌<◌, ◌≤◌, not, T, sym, refl, ◌∙◌, rules, le-ltb, lt-ltb}
+use Rattle.std.proofs.Common.{◌≡◌, ℕ, ◌%◌, ◌<◌, ◌≤◌, not, T, sym, refl, ◌∙◌, le-ltb, lt-ltb}
 use lib.Ieee.Bits.{nan_bits_is, nan_bits_above}
 use lib.Ieee.{Float, div, binary64, nan, inf, fin, is_nan, of_bits, nan_bits}
 use Rattle.script.proofs.patterns.float_of_bits.Goals as goal

@@ -1,5 +1,5 @@
 -- What is read so far, read on over what is left, is what the whole gives; i digits give less than 16 ^ i.
-use Rattle.std.proofs.Common.{◌≡◌, ℕ, ◌+◌, ◌-◌, ◌*◌, ◌^◌, ◌<◌, ◌≤◌, List, length, get_or, drop, sym, ◌∙◌, pow-suc, add-one, arith, lit<, rules, le-ltb, lt-ltb, ne_eqb}
+use Rattle.std.proofs.Common.{◌≡◌, ℕ, ◌+◌, ◌*◌, ◌^◌, ◌<◌, ◌≤◌, List, length, get_or, drop, sym, ◌∙◌, pow-suc, add-one, arith, lit<, rules, le-ltb, lt-ltb, ne_eqb}
 use Rattle.script.specs.declared.patterns.Pattern.TheVariants.{Bits, Wrong}
 use Rattle.script.specs.Hex.{digit_of}
 use Rattle.script.specs.Patterns.{pattern_from, pattern_of}

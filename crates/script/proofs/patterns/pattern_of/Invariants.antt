@@ -1,10 +1,6 @@
 -- What is read so far, read on over what is left, is what the whole gives; i digits give less than 16 ^ i.
-use Rattle.std.proofs.Common.{◌≡◌, ℕ, ◌+◌, ◌-◌, ◌*◌, ◌^◌, ◌<◌, ◌≤◌, List, length, get_or, drop, sym, ◌∙◌, pow-suc, add-one, arith, lit<, rules, le-ltb, lt-ltb, ne_eqb}
-use Rattle.script.specs.declared.patterns.Pattern.TheVariants.{Bits, Wrong}
-use Rattle.script.specs.Hex.{digit_of}
+use Rattle.std.proofs.Common.{◌≡◌, ◌-◌, ◌^◌, ◌<◌, ◌≤◌, length, drop}
 use Rattle.script.specs.Patterns.{pattern_from, pattern_of}
-use Rattle.values.specs.Laws.Scan.{step, end}
-use native.Mathlib.Nat.{pow-le-pow_right}
 use Rattle.script.proofs.patterns.pattern_of.Given as goal
 
 abbrev pub invariant-loop-i : goal.invariant-loop-i

@@ -1,5 +1,5 @@
 -- The bytes that are made are at most as many as there is room for, and the buffer keeps its length.
-use Rattle.std.proofs.Common.{◌≡◌, ◌-◌, length, refl, length-set, rules}
+use Rattle.std.proofs.Common.{◌≡◌, ◌-◌, length}
 use Rattle.script.proofs.payload.fill.Given as goal
 
 abbrev pub invariant-loop-i : goal.invariant-loop-i

@@ -1,5 +1,5 @@
 -- The loop ends with the bytes.
-use Rattle.std.proofs.Common.{◌-◌, ◌≤◌, length, rules}
+use Rattle.std.proofs.Common.{◌-◌, ◌≤◌, length}
 use Rattle.script.proofs.payload.sum.Given as goal
 
 abbrev pub invariant-loop-i : goal.invariant-loop-i

@@ -1,5 +1,4 @@
 -- The front up to the blank is what the definition has.
-use Rattle.std.proofs.Common.{rules}
 use Rattle.script.proofs.words.first_word.Goals as goal
 
 pub returns : goal.returns

@@ -1,5 +1,4 @@
 -- The blank stands before the end, as the definition asks.
-use Rattle.std.proofs.Common.{rules}
 use Rattle.script.proofs.words.goes_on.Goals as goal
 
 pub returns : goal.returns

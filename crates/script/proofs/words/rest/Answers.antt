@@ -1,5 +1,4 @@
 -- The bytes behind the blank are what the definition has.
-use Rattle.std.proofs.Common.{rules}
 use Rattle.script.proofs.words.rest.Goals as goal
 
 pub returns : goal.returns
