@@ -1,7 +1,6 @@
 -- The first n entries are n.
 use mathlib.Core.Path.{sym}
 use lib.Seq.{length-take-le}
-use borrow.Author.Rules.{rules}
 use Rattle.device_edges.proofs.memory.floats.Goals as goal
 
 pub slice_bounds-result-end : goal.slice_bounds-result-end

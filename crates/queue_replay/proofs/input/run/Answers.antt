@@ -1,7 +1,5 @@
 -- The turns are counted down.
 use Rattle.script.specs.Turns.{fewer}
-use borrow.Author.Rules.{rules}
-use Prim.Native.Nat.{◌≤◌}
 use Rattle.queue_replay.proofs.input.run.Goals as goal
 
 pub loop-turns-smaller : goal.loop-turns-smaller

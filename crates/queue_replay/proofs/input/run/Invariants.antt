@@ -1,6 +1,4 @@
 -- The turns are counted down.
-use Rattle.script.specs.Turns.{fewer}
-use borrow.Author.Rules.{rules}
 use Prim.Native.Nat.{◌≤◌}
 use Rattle.queue_replay.proofs.input.run.Given as goal
 

@@ -1,5 +1,5 @@
 -- The loop ends with the copies that are held.
-use Rattle.std.proofs.Common.{◌-◌, ◌≤◌, rules}
+use Rattle.std.proofs.Common.{◌-◌, ◌≤◌}
 use Rattle.queue_runs.proofs.list.least_of.Given as goal
 
 abbrev pub invariant-loop-i : goal.invariant-loop-i

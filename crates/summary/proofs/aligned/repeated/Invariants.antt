@@ -1,5 +1,5 @@
 -- The loop ends at its last turn, and the lent buffer keeps its length.
-use Rattle.std.proofs.Common.{◌≡◌, ◌-◌, length, rules}
+use Rattle.std.proofs.Common.{◌≡◌, ◌-◌, length}
 use Rattle.summary.proofs.aligned.repeated.Given as goal
 
 abbrev pub invariant-loop : goal.invariant-loop

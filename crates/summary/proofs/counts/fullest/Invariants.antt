@@ -1,5 +1,5 @@
 -- The loop ends after the last bucket.
-use Rattle.std.proofs.Common.{◌-◌, ◌≤◌, rules}
+use Rattle.std.proofs.Common.{◌-◌, ◌≤◌}
 use Rattle.summary.proofs.counts.fullest.Given as goal
 
 abbrev pub invariant-loop-i : goal.invariant-loop-i

@@ -1,5 +1,5 @@
 -- The loop ends after the last digit, and the lent buffer keeps its length.
-use Rattle.std.proofs.Common.{◌≡◌, ◌-◌, length, rules}
+use Rattle.std.proofs.Common.{◌≡◌, ◌-◌, length}
 use Rattle.summary.proofs.decimal.numerals.Given as goal
 
 abbrev pub invariant-loop-i : goal.invariant-loop-i

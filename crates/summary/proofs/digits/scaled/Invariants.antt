@@ -1,5 +1,5 @@
 -- The loop ends at its last turn.
-use Rattle.std.proofs.Common.{◌-◌, ◌≤◌, rules}
+use Rattle.std.proofs.Common.{◌-◌, ◌≤◌}
 use Rattle.summary.proofs.digits.scaled.Given as goal
 
 abbrev pub invariant-loop : goal.invariant-loop

@@ -1,5 +1,5 @@
 -- The loop ends before the units.
-use Rattle.std.proofs.Common.{◌-◌, ◌≤◌, rules}
+use Rattle.std.proofs.Common.{◌-◌, ◌≤◌}
 use Rattle.summary.proofs.digits.zeros.Given as goal
 
 abbrev pub invariant-loop-count : goal.invariant-loop-count

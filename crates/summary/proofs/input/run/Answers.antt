@@ -1,5 +1,4 @@
 -- The turns are counted down.
-use Rattle.std.proofs.Common.{◌≤◌, rules}
 use Rattle.script.specs.Turns.{fewer}
 use Rattle.summary.proofs.input.run.Goals as goal
 

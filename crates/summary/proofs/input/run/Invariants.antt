@@ -1,6 +1,5 @@
 -- The turns are counted down.
-use Rattle.std.proofs.Common.{◌≤◌, rules}
-use Rattle.script.specs.Turns.{fewer}
+use Rattle.std.proofs.Common.{◌≤◌}
 use Rattle.summary.proofs.input.run.Given as goal
 
 abbrev pub invariant-loop-turns : goal.invariant-loop-turns

@@ -1,5 +1,5 @@
 -- The loop ends after the last word.
-use Rattle.std.proofs.Common.{◌-◌, ◌≤◌, rules}
+use Rattle.std.proofs.Common.{◌-◌, ◌≤◌}
 use Rattle.summary.proofs.report_line.read.Given as goal
 
 abbrev pub invariant-loop-i : goal.invariant-loop-i

@@ -1,5 +1,5 @@
 -- The loop ends after a hundred thousand turns.
-use Rattle.std.proofs.Common.{◌-◌, ◌≤◌, rules}
+use Rattle.std.proofs.Common.{◌-◌, ◌≤◌}
 use Rattle.vectors.proofs.accounts_run.long_run.Given as goal
 
 abbrev pub invariant-loop : goal.invariant-loop

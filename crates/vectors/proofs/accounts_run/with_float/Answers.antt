@@ -1,5 +1,4 @@
 -- What equals itself is no NaN, so it has a bit pattern.
-use Rattle.std.proofs.Common.{rules}
 use Rattle.numbers.specs.Laws.Kinds.{self_equal, number_is}
 use Rattle.vectors.proofs.accounts_run.with_float.Goals as goal
 

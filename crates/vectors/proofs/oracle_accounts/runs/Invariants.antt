@@ -1,5 +1,5 @@
 -- The loop ends after every latency, and its counter is a place in the list.
-use Rattle.std.proofs.Common.{◌-◌, ◌≤◌, rules}
+use Rattle.std.proofs.Common.{◌-◌, ◌≤◌}
 use Rattle.vectors.proofs.oracle_accounts.runs.Given as goal
 
 abbrev pub invariant-loop-k : goal.invariant-loop-k

@@ -1,5 +1,5 @@
 -- The loop ends after every pair.
-use Rattle.std.proofs.Common.{◌-◌, ◌≤◌, rules}
+use Rattle.std.proofs.Common.{◌-◌, ◌≤◌}
 use Rattle.vectors.proofs.oracle_draws.extremes.Given as goal
 
 abbrev pub invariant-loop-k : goal.invariant-loop-k

@@ -1,5 +1,5 @@
 -- The loop ends after a million turns.
-use Rattle.std.proofs.Common.{◌-◌, ◌≤◌, rules}
+use Rattle.std.proofs.Common.{◌-◌, ◌≤◌}
 use Rattle.vectors.proofs.oracle_draws.long_run.Given as goal
 
 abbrev pub invariant-loop : goal.invariant-loop

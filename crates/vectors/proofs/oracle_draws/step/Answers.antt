@@ -1,7 +1,6 @@
 -- A draw is finite, so it has a bit pattern.
 use Rattle.draws.proofs.Fraction.{draw_plus}
 use Rattle.numbers.specs.Laws.Kinds.{number_is, plus_finite_number}
-use Rattle.std.proofs.Common.{rules}
 use Rattle.vectors.proofs.oracle_draws.step.Goals as goal
 
 pub float_to_bits-draw : goal.float_to_bits-draw

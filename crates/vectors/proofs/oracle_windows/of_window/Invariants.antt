@@ -1,5 +1,5 @@
 -- The loop ends after the last instant.
-use Rattle.std.proofs.Common.{◌-◌, ◌≤◌, rules}
+use Rattle.std.proofs.Common.{◌-◌, ◌≤◌}
 use Rattle.vectors.proofs.oracle_windows.of_window.Given as goal
 
 abbrev pub invariant-loop-i : goal.invariant-loop-i

@@ -1,5 +1,5 @@
 -- The loop ends after the last number.
-use Rattle.std.proofs.Common.{◌≡◌, ◌-◌, ◌≤◌, length, rules}
+use Rattle.std.proofs.Common.{◌≡◌, ◌-◌, ◌≤◌, length}
 use Rattle.vectors.proofs.records.counts.Given as goal
 
 abbrev pub invariant-loop-i : goal.invariant-loop-i
