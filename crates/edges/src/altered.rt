@@ -1,6 +1,6 @@
 // An engine that is altered between calls.
-use crate::numbers::Numbers;
 use crate::settings_of;
+use crate::step_numbers::Numbers;
 use engine::ArrivalEngine;
 
 // What a step sets: T the credit, F the instant of the last refill, X that of the next rebind, N the rebinds done, Q the packets received, Z the generator's

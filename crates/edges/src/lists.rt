@@ -1,5 +1,5 @@
 // Lists of windows that are altered. The numbers of a step are a start, an end, and how many entries are counted.
-use crate::numbers::Numbers;
+use crate::step_numbers::Numbers;
 use options::DirectionConfig;
 use settings::{KillStyle, TcpKill, Window};
 

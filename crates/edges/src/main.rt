@@ -5,8 +5,8 @@ mod altered;
 mod calls;
 mod cases;
 mod lists;
-mod numbers;
 mod settings_of;
+mod step_numbers;
 mod steps_of;
 mod words;
 

@@ -1,6 +1,6 @@
 // Settings that are altered in one thing.
 use crate::lists;
-use crate::numbers::Numbers;
+use crate::step_numbers::Numbers;
 use options::{DirectionConfig, MtuOption, RateOption};
 use settings::{Ge, GeOption};
 

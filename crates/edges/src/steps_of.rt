@@ -1,7 +1,7 @@
 // The steps of a case, each a letter behind its numbers, which are hexadecimal. m makes an engine of the settings, n says also what comes of it. Calls: i an
 // arrival, r a rebind, v an overflow; h sets their instant and l the length of the packet, which are 0 and 100 before. The steps that only say something stand at
 // `calls`, those that alter the engine at `altered`.
-use crate::numbers::Numbers;
+use crate::step_numbers::Numbers;
 use crate::{altered, calls};
 use engine::ArrivalEngine;
 use options::DirectionConfig;

@@ -1,5 +1,5 @@
 -- The loop counts down, and no call changes the length of a table.
-use Rattle.std.proofs.Common.{◌≡◌, length, refl, ◌∙◌, arith, rules}
+use Rattle.std.proofs.Common.{◌≡◌, length}
 use Rattle.bench_queue.proofs.bench_queue.Given as goal
 
 abbrev pub invariant-loop-left : goal.invariant-loop-left

@@ -1,5 +1,4 @@
 -- The loop ends after its turns.
-use Rattle.std.proofs.Common.{rules}
 use Rattle.bench.proofs.parses.run.Given as goal
 
 abbrev pub invariant-loop-left : goal.invariant-loop-left

@@ -1,5 +1,5 @@
 -- The loop ends after fifty million packets.
-use Rattle.std.proofs.Common.{◌-◌, ◌≤◌, rules}
+use Rattle.std.proofs.Common.{◌-◌, ◌≤◌}
 use Rattle.bench.proofs.sends.run.Given as goal
 
 abbrev pub invariant-loop : goal.invariant-loop

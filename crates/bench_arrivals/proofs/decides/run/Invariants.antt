@@ -1,5 +1,5 @@
 -- The loop ends after ten million packets.
-use Rattle.std.proofs.Common.{◌-◌, ◌≤◌, rules}
+use Rattle.std.proofs.Common.{◌-◌, ◌≤◌}
 use Rattle.bench_arrivals.proofs.decides.run.Given as goal
 
 abbrev pub invariant-loop-i : goal.invariant-loop-i

@@ -1,5 +1,5 @@
 -- The loop ends after 4,000 calls.
-use Rattle.std.proofs.Common.{◌-◌, ◌≤◌, arith, rules}
+use Rattle.std.proofs.Common.{arith}
 use Rattle.queue_edges.proofs.altered.counted.Goals as goal
 
 pub loop-turn-init : goal.loop-turn-init

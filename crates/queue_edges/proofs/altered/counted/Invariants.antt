@@ -1,5 +1,5 @@
 -- The loop ends after 4,000 calls.
-use Rattle.std.proofs.Common.{◌-◌, ◌≤◌, arith, rules}
+use Rattle.std.proofs.Common.{◌-◌, ◌≤◌}
 use Rattle.queue_edges.proofs.altered.counted.Given as goal
 
 abbrev pub invariant-loop-turn : goal.invariant-loop-turn

@@ -1,5 +1,5 @@
 -- The loop ends after 256 entries.
-use Rattle.std.proofs.Common.{◌-◌, ◌≤◌, arith, rules}
+use Rattle.std.proofs.Common.{arith}
 use Rattle.queue_edges.proofs.marks.words.Goals as goal
 
 pub loop-i-init : goal.loop-i-init

@@ -1,5 +1,5 @@
 -- The loop ends after 5,000 parts.
-use Rattle.std.proofs.Common.{◌-◌, ◌≤◌, rules}
+use Rattle.std.proofs.Common.{◌-◌, ◌≤◌}
 use Rattle.queue_edges.proofs.parts.wrong.Given as goal
 
 abbrev pub invariant-loop-turn : goal.invariant-loop-turn

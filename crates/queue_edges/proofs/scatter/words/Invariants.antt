@@ -1,5 +1,5 @@
 -- The loop ends after 256 entries.
-use Rattle.std.proofs.Common.{◌-◌, ◌≤◌, arith, rules}
+use Rattle.std.proofs.Common.{◌-◌, ◌≤◌}
 use Rattle.queue_edges.proofs.scatter.words.Given as goal
 
 abbrev pub invariant-loop-i : goal.invariant-loop-i

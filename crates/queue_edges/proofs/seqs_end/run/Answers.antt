@@ -1,5 +1,5 @@
 -- The loop ends after 13 calls, and the store keeps its length.
-use Rattle.std.proofs.Common.{◌≡◌, ◌-◌, ◌≤◌, length, sym, refl, arith, rules}
+use Rattle.std.proofs.Common.{sym, refl, arith}
 use Rattle.queue_edges.proofs.seqs_end.run.Goals as goal
 
 pub loop-step-init : goal.loop-step-init

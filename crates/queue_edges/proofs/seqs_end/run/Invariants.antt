@@ -1,5 +1,5 @@
 -- The loop ends after 13 calls, and the store keeps its length.
-use Rattle.std.proofs.Common.{◌≡◌, ◌-◌, ◌≤◌, length, sym, refl, arith, rules}
+use Rattle.std.proofs.Common.{◌≡◌, ◌-◌, ◌≤◌, length}
 use Rattle.queue_edges.proofs.seqs_end.run.Given as goal
 
 abbrev pub invariant-loop-step : goal.invariant-loop-step

@@ -1,5 +1,5 @@
 -- The loop ends after 28.
-use Rattle.std.proofs.Common.{◌-◌, ◌≤◌, arith, rules}
+use Rattle.std.proofs.Common.{arith}
 use Rattle.queue_edges.proofs.tally.Tally.print_refused.Goals as goal
 
 pub loop-n-init : goal.loop-n-init

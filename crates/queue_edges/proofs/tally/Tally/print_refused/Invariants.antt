@@ -1,5 +1,5 @@
 -- The loop ends after 28.
-use Rattle.std.proofs.Common.{◌-◌, ◌≤◌, arith, rules}
+use Rattle.std.proofs.Common.{◌-◌, ◌≤◌}
 use Rattle.queue_edges.proofs.tally.Tally.print_refused.Given as goal
 
 abbrev pub invariant-loop-n : goal.invariant-loop-n
