@@ -17,6 +17,8 @@ WORD = r"[^\s(){}.;,:@\"«»\[\]]+"
 TOKEN = re.compile(r"--[^\n]*|//[^\n]*|\"(?:[^\"\\\n]|\\.)*\"|'(?:[^'\\]|\\.)'|" + WORD)
 DECLARED = re.compile(r"^\s*(?:(?:abbrev|unfoldable|pub|private|constructor)\s+)*(?:(?:record|data|module)\s+)?(" + WORD + r")((?:\s+[^:=]*)?)\s:(?:\s|$)")
 USE = re.compile(r"\buse (Rattle\.(?:std|core)[\w.]*|mathlib[\w.]*|native[\w.]*|lib[\w.]*|borrow[\w.]*|Prim[\w.]*|package[\w.]*)\.\{([^}]*)\}")
+# Two fields that would get the names of definitions.
+FIELDS = {"free-seqs": "seqs_free", "no-sends": "nothing_sent"}
 OLD = re.compile(r"^(?:[a-z][\w'₀]*(?:-[\w'₀→≤<]+)+|[a-z][a-z0-9_]*[A-Z]\w*'?)$")
 
 
@@ -53,7 +55,7 @@ def declared(root):
     definitions = {snake(name) for name in names if "-" not in name}
     out = {}
     for name in names:
-        out[name] = snake(name) + ("_lem" if "-" in name and snake(name) in definitions else "")
+        out[name] = FIELDS.get(name, snake(name) + ("_lem" if "-" in name and snake(name) in definitions else ""))
     for name in snakes & definitions:
         out[name] = name + "_lem"
     return out

@@ -64,4 +64,4 @@ module _ (width : ℕ) (q : ImpairQueue) (t : Tables) (now : Float) (memory : Bo
 
     pub release_done : (x : After Released) (due : Float) → root < q.leaves → due ≡ get_or t.dues root (whole 0) → le due now ≡ true → x ≡ left_of q t root → x ≡ release_of width q t now
     unfolding due_of
-    release_done x due in_tree ed is-due ex = at_root x (ex ∙ rw (lt-leb q.leaves root in_tree, ← ed, is-due))
+    release_done x due in_tree ed is_due ex = at_root x (ex ∙ rw (lt-leb q.leaves root in_tree, ← ed, is_due))

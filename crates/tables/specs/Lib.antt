@@ -1,2 +1,2 @@
--- Slots says where the bytes of a slot lie in a store; a table's reads and writes are those of lists (getD, set).
+-- Slots says where the bytes of a slot lie in a store; a table's reads and writes are those of lists (get_or, set).
 pub mod Slots

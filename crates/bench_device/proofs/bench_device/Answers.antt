@@ -1,5 +1,4 @@
 -- No table changes its length in the run.
-use Rattle.std.proofs.Common.{rules}
 use Rattle.bench_device.proofs.bench_device.Goals as goal
 
 pub shape_of-win : goal.shape_of-win

@@ -32,7 +32,7 @@ pub record Counted (x : Tally) (m : Machine) : Type 0 where
   pub resets : m.accounts.tcp_rst_kills ≡ x.reset
   pub no_resets : m.engine.stats.tcp_rst_kills ≡ 0
   pub sends : m.accounts.sent_pkts ≡ x.released
-  pub no_sends_lem : m.engine.stats.sent_pkts ≡ 0
+  pub nothing_sent : m.engine.stats.sent_pkts ≡ 0
   pub torn : m.torn ≡ x.torn
 
 -- a step counts what its answer adds

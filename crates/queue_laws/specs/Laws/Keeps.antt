@@ -56,7 +56,7 @@ pub record Keeps (width : ℕ) (t : Tables) (q : ImpairQueue) (p : Plain) : Type
   pub uniq : (s x : ℕ) → s < q.leaves → x < q.leaves → get_or t.seqs s 0 < seq_limit → get_or t.seqs x 0 ≡ get_or t.seqs s 0 → x ≡ s
   -- the slots that copies have left, each once
   pub free_low : (j : ℕ) → j < q.opened - q.held → get_or t.free j 0 < q.opened
-  pub free_seqs_lem : (j : ℕ) → j < q.opened - q.held → seq_limit ≤ get_or t.seqs (get_or t.free j 0) 0
+  pub seqs_free : (j : ℕ) → j < q.opened - q.held → seq_limit ≤ get_or t.seqs (get_or t.free j 0) 0
   pub apart : (i j : ℕ) → i < q.opened - q.held → j < q.opened - q.held → get_or t.free i 0 ≡ get_or t.free j 0 → i ≡ j
   pub count : q.held ≡ length p.held
   pub same_next : q.next_seq ≡ p.next_seq

@@ -42,7 +42,7 @@ pub record Entered (width : ℕ) (o : AfterCopy) (p : Plain) : Type 0 where
 
 module _ (width : ℕ) (t : Tables) (q : ImpairQueue) (p : Plain) (k : Keeps width t q p) (due arrival : Float) (route id : ℕ) (bytes : List ℕ) (num : Num due) (fit : length bytes ≤ width) (more : q.next_seq < seq_limit) (s : ℕ) (which : Next q t.free s) (low : s < q.leaves) where
   was_free_seq : seq_limit ≤ get_or t.seqs s 0
-  was_free_seq = ⊎_elim (λ w. k.unused s (omega (arith, w.1)) low) (λ w. rw w.1 (k.free_seqs_lem _ (omega (arith, w.0)))) which
+  was_free_seq = ⊎_elim (λ w. k.unused s (omega (arith, w.1)) low) (λ w. rw w.1 (k.seqs_free _ (omega (arith, w.0)))) which
 
   opened_next : s < max q.opened (q.held + 1)
   opened_next = ⊎_elim (λ w. omega (arith, w.0, w.1)) (λ w. let h = k.free_low (q.opened - q.held - 1) (omega (arith, w.0)) in omega (arith, w.1)) which
@@ -145,7 +145,7 @@ module _ (width : ℕ) (t : Tables) (q : ImpairQueue) (p : Plain) (k : Keeps wid
     unused = λ (x : ℕ) (h : max q.opened (q.held + 1) ≤ x) (l : x < q.leaves). rw (there_seq x (λ (e : x ≡ s). omega (arith, opened_next))) (k.unused x (omega arith) l);
     uniq = push_uniq;
     free_low = λ (j : ℕ) (h : j < max q.opened (q.held + 1) - (q.held + 1)). omega (arith, k.free_low j (omega arith));
-    free_seqs_lem = λ (j : ℕ) (h : j < max q.opened (q.held + 1) - (q.held + 1)). rw (there_seq (get_or t.free j 0) (other_free j h)) (k.free_seqs_lem j (omega arith));
+    seqs_free = λ (j : ℕ) (h : j < max q.opened (q.held + 1) - (q.held + 1)). rw (there_seq (get_or t.free j 0) (other_free j h)) (k.seqs_free j (omega arith));
     apart = λ (i j : ℕ) (hi : i < max q.opened (q.held + 1) - (q.held + 1)) (hj : j < max q.opened (q.held + 1) - (q.held + 1)). k.apart i j (omega arith) (omega arith);
     count = rw length-append (omega (arith, k.count));
     same_next = omega (arith, k.same_next);
@@ -215,7 +215,7 @@ module _ (width : ℕ) (t : Tables) (q : ImpairQueue) (p : Plain) (k : Keeps wid
     unused = λ (s : ℕ) (h : q.opened ≤ s) (l : s < n). ⊎_elim (λ (u : s < q.leaves). rw (kept_seq s u) (k.unused s h u)) (λ (u : q.leaves ≤ s). rw (new_seq s u l) (omega arith)) (lt_cases s q.leaves);
     uniq = grow_uniq;
     free_low = k.free_low;
-    free_seqs_lem = λ (j : ℕ) (h : j < q.opened - q.held). rw (kept_seq (get_or t.free j 0) (omega (arith, k.free_low j h, k.opened_in))) (k.free_seqs_lem j h);
+    seqs_free = λ (j : ℕ) (h : j < q.opened - q.held). rw (kept_seq (get_or t.free j 0) (omega (arith, k.free_low j h, k.opened_in))) (k.seqs_free j h);
     apart = k.apart;
     count = k.count;
     same_next = k.same_next;

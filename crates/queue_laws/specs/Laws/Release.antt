@@ -110,7 +110,7 @@ module _ (width : ℕ) (t : Tables) (q : ImpairQueue) (p : Plain) (k : Keeps wid
   entry j h e = omega (arith, some_held, k.held_in)
 
   not_root : (j : ℕ) → j < q.opened - q.held → get_or t.free j 0 ≢ root
-  not_root j h e = let z : seq_limit ≤ get_or t.seqs root 0 = rw e at (k.free_seqs_lem j h) in omega (arith, root_live)
+  not_root j h e = let z : seq_limit ≤ get_or t.seqs root 0 = rw e at (k.seqs_free j h) in omega (arith, root_live)
 
   left_open_low : (j : ℕ) → j < q.opened - (q.held - 1) → get_or t''.free j 0 < q.opened
   left_open_low j h = ⊎_elim (λ (e : j ≡ q.opened - q.held). rw (e, free_top) root_used) (λ (e : j ≢ q.opened - q.held). rw (free_rest j e) (k.free_low j (entry j h e))) (eq_cases j (q.opened - q.held))
@@ -118,7 +118,7 @@ module _ (width : ℕ) (t : Tables) (q : ImpairQueue) (p : Plain) (k : Keeps wid
   left_open_dead : (j : ℕ) → j < q.opened - (q.held - 1) → seq_limit ≤ get_or t''.seqs (get_or t''.free j 0) 0
   left_open_dead j h = ⊎_elim
       (λ (e : j ≡ q.opened - q.held). rw (e, free_top, gone_seq) (omega arith))
-      (λ (e : j ≢ q.opened - q.held). rw (free_rest j e, else_seq (get_or t.free j 0) (not_root j (entry j h e))) (k.free_seqs_lem j (entry j h e)))
+      (λ (e : j ≢ q.opened - q.held). rw (free_rest j e, else_seq (get_or t.free j 0) (not_root j (entry j h e))) (k.seqs_free j (entry j h e)))
       (eq_cases j (q.opened - q.held))
 
   left_apart : (i j : ℕ) → i < q.opened - (q.held - 1) → j < q.opened - (q.held - 1) → get_or t''.free i 0 ≡ get_or t''.free j 0 → i ≡ j
@@ -168,7 +168,7 @@ module _ (width : ℕ) (t : Tables) (q : ImpairQueue) (p : Plain) (k : Keeps wid
     unused = λ (x : ℕ) (h : q.opened ≤ x) (l : x < q.leaves). rw (else_seq x (λ (e : x ≡ root). omega (arith, root_used))) (k.unused x h l);
     uniq = left_uniq;
     free_low = left_open_low;
-    free_seqs_lem = left_open_dead;
+    seqs_free = left_open_dead;
     apart = left_apart;
     count = left_count;
     same_next = k.same_next;

@@ -1,5 +1,5 @@
 -- The outer loop counts the arrivals down, the inner one the copies that can be due; no call changes the length of a table.
-use Rattle.std.proofs.Common.{◌≡◌, length, ◌∙◌, arith, rules}
+use Rattle.std.proofs.Common.{◌∙◌, arith}
 use Rattle.bench_device.proofs.rounds.run.Goals as goal
 
 pub loop-most-preserved : goal.loop-most-preserved

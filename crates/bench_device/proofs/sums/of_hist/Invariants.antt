@@ -1,4 +1,4 @@
-use Rattle.std.proofs.Common.{◌-◌, ◌≤◌, rules}
+use Rattle.std.proofs.Common.{◌-◌, ◌≤◌}
 use Rattle.bench_device.proofs.sums.of_hist.Given as goal
 
 abbrev pub invariant-loop-i : goal.invariant-loop-i
