@@ -1,13 +1,13 @@
-ghost use Rattle.std.specs.Prelude.{◌≡◌, true};
+ghost use Rattle.std.specs.Prelude.{◌≡◌};
 ghost use Rattle.accounts.specs.Accountant.{no_sends, merged_of};
-ghost use Rattle.accounts.specs.Counters.{are_counters, accountant_counters, stats_counters};
+ghost use Rattle.accounts.specs.Counters.{are_counters, accountant_counters};
+ghost use Rattle.accounts.specs.Laws.Small.{SmallSends, SmallStats};
 ghost use Rattle.accounts.specs.Calls.{on_send_of, merge_into_of};
 
-use crate::answers::Outcome;
 use crate::latency::LatencyStats;
-use crate::stats::{DirectionStats, Updated};
-use crate::{counters, joining, latency, stats};
-use numbers::{REFUSED_COUNTER, REFUSED_LENGTH};
+use crate::stats::DirectionStats;
+use crate::{counters, joining, stats};
+use numbers::Refusal;
 
 // What was sent, and how long it had waited.
 #[derive(Clone, Copy)]
@@ -20,18 +20,12 @@ pub struct SendAccountant {
     pub latency: LatencyStats,
 }
 
-// The accountant after a call, and its answer.
-#[derive(Clone, Copy)]
-pub struct Sent {
-    pub accountant: SendAccountant,
-    pub answer: Outcome,
-}
+#[tactic(auto, unfolding(crate::specs::Accountant::no_sends))]
+impl Default for SendAccountant {
+    ghost is_default = { λ a. a ≡ no_sends };
 
-impl SendAccountant {
     // Nothing was sent.
-    pub fn default() -> SendAccountant
-        ensures { result ≡ no_sends }
-    {
+    fn default() -> Self {
         SendAccountant {
             sent_pkts: 0,
             sent_bytes: 0,
@@ -41,80 +35,65 @@ impl SendAccountant {
             latency: LatencyStats::default(),
         }
     }
+}
 
+impl SendAccountant {
     // Counts a packet of len bytes that was sent with this latency, or refuses by 22 or 25.
-    pub fn on_send(mut self, len: usize, latency_ms: f64) -> Sent
+    pub fn on_send(mut self, len: usize, latency_ms: f64) -> (Self, Result<(), Refusal>)
         ensures { result ≡ on_send_of self len latency_ms }
     {
         if !numbers::is_length(len) {
-            return Sent {
-                accountant: self,
-                answer: Outcome::Refused(REFUSED_LENGTH),
-            };
+            return (self, Err(Refusal::Length));
         }
         if !self.in_range() {
-            return Sent {
-                accountant: self,
-                answer: Outcome::Refused(REFUSED_COUNTER),
-            };
+            return (self, Err(Refusal::Counter));
         }
-        let latency = self.latency;
         self.sent_pkts += 1;
         self.sent_bytes += len as u64;
-        self.latency = latency::recorded(latency, latency_ms);
-        Sent {
-            accountant: self,
-            answer: Outcome::Done,
-        }
+        self.latency.record(latency_ms);
+        (self, Ok(()))
     }
 
     // Joins the counts and latencies to the statistics that hold the arrivals, or refuses by 25.
-    pub fn merge_into(self, st: DirectionStats) -> Updated
+    pub fn merge_into(self, st: DirectionStats) -> (DirectionStats, Result<(), Refusal>)
         ensures { result ≡ merge_into_of self st }
     {
         let counted = self.in_range() & st.in_range();
         if !counted {
-            return Updated {
-                stats: st,
-                answer: Outcome::Refused(REFUSED_COUNTER),
-            };
+            return (st, Err(Refusal::Counter));
         }
-        Updated {
-            stats: merged(self, st),
-            answer: Outcome::Done,
-        }
+        (merged(&self, st), Ok(()))
     }
 
     // Whether refusal 25 lets the counters through: their bits together are below 2^60 where each of them is.
-    pub fn in_range(self) -> bool
-        ensures { result ≡ are_counters (accountant_counters self) }
+    pub fn in_range(&self) -> bool
+        ensures { result ≡ are_counters (accountant_counters self.now) }
     {
-        let l = self.latency;
-        let hist = l.hist;
-        let bits = counters::counter_bits(hist);
+        let bits = counters::counter_bits(&self.latency.hist);
         numbers::is_counter(
             self.sent_pkts
                 | self.sent_bytes
                 | self.dropped_overflow
                 | self.tcp_rst_kills
                 | self.nat_rebinds
-                | l.count
+                | self.latency.count
                 | bits,
         )
     }
 }
 
 // The statistics with the accountant's counters added and its latencies joined.
-fn merged(a: SendAccountant, mut st: DirectionStats) -> DirectionStats
-    requires { (are_counters (accountant_counters a) ≡ true) × (are_counters (stats_counters st) ≡ true) }
-    ensures { result ≡ merged_of a st }
+#[tactic(auto, unfolding(crate::specs::Accountant::merged_of, crate::specs::Accountant::with_sends))]
+fn merged(a: &SendAccountant, mut st: DirectionStats) -> DirectionStats
+    requires sends { SmallSends a.now }
+    requires stats { SmallStats st }
+    ensures { result ≡ merged_of a.now st }
 {
-    let l = a.latency;
-    let joined = joining::joined(stats::latencies(st), l);
+    let joined = joining::joined(&stats::latencies(&st), &a.latency);
     st.sent_pkts += a.sent_pkts;
     st.sent_bytes += a.sent_bytes;
     st.dropped_overflow += a.dropped_overflow;
     st.tcp_rst_kills += a.tcp_rst_kills;
     st.nat_rebinds += a.nat_rebinds;
-    stats::with_latencies(st, joined)
+    stats::with_latencies(st, &joined)
 }

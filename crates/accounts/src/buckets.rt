@@ -16,12 +16,8 @@ const BUCKET_BOUNDS_MS: [f64; N_BOUNDS] = [
 pub fn bucket_index(latency_ms: f64) -> usize
     ensures { result ≡ bucket_index_of latency_ms }
 {
-    let mut i: usize = 0;
-    while i < N_BOUNDS {
-        if latency_ms < BUCKET_BOUNDS_MS[i] {
-            break;
-        }
-        i += 1;
-    }
-    i
+    BUCKET_BOUNDS_MS
+        .iter()
+        .position(|bound| latency_ms < *bound)
+        .unwrap_or(N_BOUNDS)
 }

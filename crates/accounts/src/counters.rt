@@ -4,12 +4,8 @@ ghost use Rattle.accounts.specs.Bits.{bits_from};
 use crate::buckets::N_BUCKETS;
 
 // The bits of all counters of a histogram together.
-pub(crate) fn counter_bits(hist: [u64; N_BUCKETS]) -> u64
-    ensures { result ≡ bits_from 0 hist }
+pub(crate) fn counter_bits(hist: &[u64; N_BUCKETS]) -> u64
+    ensures { result ≡ bits_from 0 hist.now }
 {
-    let mut bits = 0;
-    for i in 0..N_BUCKETS {
-        bits |= hist[i];
-    }
-    bits
+    hist.iter().fold(0, |bits, counter| bits | counter)
 }

@@ -6,13 +6,12 @@ use crate::buckets::N_BUCKETS;
 use crate::latency::LatencyStats;
 
 // The target with the latencies of another record joined.
-pub(crate) fn joined(target: LatencyStats, l: LatencyStats) -> LatencyStats
-    requires { (are_counters (latency_counters target) ≡ true) × (are_counters (latency_counters l) ≡ true) }
-    ensures { result ≡ joined_of target l }
+#[tactic(auto, unfolding(crate::specs::Latency::joined_of))]
+pub(crate) fn joined(target: &LatencyStats, l: &LatencyStats) -> LatencyStats
+    requires { (are_counters (latency_counters target.now) ≡ true) × (are_counters (latency_counters l.now) ≡ true) }
+    ensures { result ≡ joined_of target.now l.now }
 {
-    let target_hist = target.hist;
-    let l_hist = l.hist;
-    let hist = joined_hist(target_hist, l_hist);
+    let hist = joined_hist(target.hist, &l.hist);
     LatencyStats {
         count: target.count + l.count,
         sum_ms: target.sum_ms + l.sum_ms,
@@ -23,8 +22,8 @@ pub(crate) fn joined(target: LatencyStats, l: LatencyStats) -> LatencyStats
 }
 
 // The minimum of the joined record.
-fn joined_minimum(target: LatencyStats, l: LatencyStats) -> f64
-    ensures { result ≡ joined_minimum_of target l }
+fn joined_minimum(target: &LatencyStats, l: &LatencyStats) -> f64
+    ensures { result ≡ joined_minimum_of target.now l.now }
 {
     if l.count == 0 {
         return target.min_ms;
@@ -40,8 +39,9 @@ fn joined_minimum(target: LatencyStats, l: LatencyStats) -> f64
 }
 
 // The maximum of the joined record.
-fn joined_maximum(target: LatencyStats, l: LatencyStats) -> f64
-    ensures { result ≡ joined_maximum_of target l }
+#[tactic(auto, unfolding(crate::specs::Latency::joined_maximum_of))]
+fn joined_maximum(target: &LatencyStats, l: &LatencyStats) -> f64
+    ensures { result ≡ joined_maximum_of target.now l.now }
 {
     if l.count == 0 {
         target.max_ms
@@ -50,10 +50,10 @@ fn joined_maximum(target: LatencyStats, l: LatencyStats) -> f64
     }
 }
 
-// The sums of two histograms, bucket by bucket.
-fn joined_hist(mut target: [u64; N_BUCKETS], hist: [u64; N_BUCKETS]) -> [u64; N_BUCKETS]
-    requires { (are_counters target ≡ true) × (are_counters hist ≡ true) }
-    ensures { result ≡ sums target hist }
+// The sums of two histograms, bucket by bucket. By index, since a proof knows no element of an array after a loop over its `iter_mut`.
+fn joined_hist(mut target: [u64; N_BUCKETS], hist: &[u64; N_BUCKETS]) -> [u64; N_BUCKETS]
+    requires { (are_counters target ≡ true) × (are_counters hist.now ≡ true) }
+    ensures { result ≡ sums target hist.now }
 {
     for i in 0..N_BUCKETS {
         target[i] += hist[i];

@@ -15,11 +15,11 @@ pub struct LatencyStats {
     pub hist: [u64; N_BUCKETS],
 }
 
-impl LatencyStats {
+impl Default for LatencyStats {
+    ghost is_default = { λ l. l ≡ no_latencies };
+
     // No latencies.
-    pub fn default() -> LatencyStats
-        ensures { result ≡ no_latencies }
-    {
+    fn default() -> Self {
         LatencyStats {
             count: 0,
             sum_ms: 0.0,
@@ -30,22 +30,22 @@ impl LatencyStats {
     }
 }
 
-// One latency more.
-pub(crate) fn recorded(mut l: LatencyStats, latency_ms: f64) -> LatencyStats
-    requires { are_counters (latency_counters l) ≡ true }
-    ensures { result ≡ recorded_of l latency_ms }
-{
-    let before = l.count;
-    l.count = before + 1;
-    l.min_ms = minimum_with(before, l.min_ms, latency_ms);
-    l.max_ms = maximum_with(l.max_ms, latency_ms);
-    l.sum_ms += latency_ms;
-    let bucket = buckets::bucket_index(latency_ms);
-    l.hist[bucket] += 1;
-    l
+impl LatencyStats {
+    // Counts one latency more.
+    pub(crate) fn record(&mut self, latency_ms: f64)
+        requires { are_counters (latency_counters self.old) ≡ true }
+        ensures { self.new ≡ recorded_of self.old latency_ms }
+    {
+        self.min_ms = minimum_with(self.count, self.min_ms, latency_ms);
+        self.max_ms = maximum_with(self.max_ms, latency_ms);
+        self.count += 1;
+        self.sum_ms += latency_ms;
+        self.hist[buckets::bucket_index(latency_ms)] += 1;
+    }
 }
 
 // The minimum with one latency more: the first sets it, and after that a lower one.
+#[tactic(auto, unfolding(crate::specs::Latency::minimum_with_of))]
 fn minimum_with(count: u64, min_ms: f64, latency_ms: f64) -> f64
     ensures { result ≡ minimum_with_of count min_ms latency_ms }
 {
@@ -60,6 +60,7 @@ fn minimum_with(count: u64, min_ms: f64, latency_ms: f64) -> f64
 }
 
 // The maximum with one latency more.
+#[tactic(auto, unfolding(crate::specs::Latency::maximum_with_of))]
 fn maximum_with(max_ms: f64, latency_ms: f64) -> f64
     ensures { result ≡ maximum_with_of max_ms latency_ms }
 {

@@ -2,15 +2,13 @@
 #![tactic(auto)]
 
 mod accountant;
-mod answers;
 mod buckets;
 mod counters;
 mod joining;
 mod latency;
 mod stats;
 
-pub use accountant::{SendAccountant, Sent};
-pub use answers::{Outcome, TotalDropped};
+pub use accountant::SendAccountant;
 pub use buckets::bucket_index;
 pub use latency::LatencyStats;
-pub use stats::{DirectionStats, Updated};
+pub use stats::DirectionStats;

@@ -3,11 +3,10 @@ ghost use Rattle.accounts.specs.Stats.{no_stats, latencies_of, with_latencies_of
 ghost use Rattle.accounts.specs.Counters.{are_counters, stats_counters};
 ghost use Rattle.accounts.specs.Calls.{record_delivered_of, total_dropped_of};
 
-use crate::answers::{Outcome, TotalDropped};
 use crate::buckets::N_BUCKETS;
+use crate::counters;
 use crate::latency::LatencyStats;
-use crate::{counters, latency};
-use numbers::REFUSED_COUNTER;
+use numbers::Refusal;
 
 // What happened in one direction.
 #[derive(Clone, Copy)]
@@ -33,18 +32,11 @@ pub struct DirectionStats {
     pub hist: [u64; N_BUCKETS],
 }
 
-// The statistics after a call, and its answer.
-#[derive(Clone, Copy)]
-pub struct Updated {
-    pub stats: DirectionStats,
-    pub answer: Outcome,
-}
+impl Default for DirectionStats {
+    ghost is_default = { λ s. s ≡ no_stats };
 
-impl DirectionStats {
     // Nothing has happened.
-    pub fn default() -> DirectionStats
-        ensures { result ≡ no_stats }
-    {
+    fn default() -> Self {
         DirectionStats {
             received_pkts: 0,
             received_bytes: 0,
@@ -67,47 +59,42 @@ impl DirectionStats {
             hist: [0; N_BUCKETS],
         }
     }
+}
 
+impl DirectionStats {
     // Counts the latency of a delivered packet, or refuses by 25.
-    pub fn record_delivered(mut self, latency_ms: f64) -> Updated
+    pub fn record_delivered(self, latency_ms: f64) -> (Self, Result<(), Refusal>)
         ensures { result ≡ record_delivered_of self latency_ms }
     {
         if !self.in_range() {
-            return Updated {
-                stats: self,
-                answer: Outcome::Refused(REFUSED_COUNTER),
-            };
+            return (self, Err(Refusal::Counter));
         }
-        self = with_latencies(self, latency::recorded(latencies(self), latency_ms));
-        Updated {
-            stats: self,
-            answer: Outcome::Done,
-        }
+        let mut recorded = latencies(&self);
+        recorded.record(latency_ms);
+        (with_latencies(self, &recorded), Ok(()))
     }
 
     // How many packets were dropped, or the refusal 25.
-    pub fn total_dropped(self) -> TotalDropped
-        ensures { result ≡ total_dropped_of self }
+    pub fn total_dropped(&self) -> Result<u64, Refusal>
+        ensures { result ≡ total_dropped_of self.now }
     {
-        if self.in_range() {
-            TotalDropped::Dropped(
-                self.dropped_random
-                    + self.dropped_ge
-                    + self.dropped_mtu
-                    + self.dropped_blackout
-                    + self.dropped_overflow,
-            )
-        } else {
-            TotalDropped::Refused(REFUSED_COUNTER)
+        if !self.in_range() {
+            return Err(Refusal::Counter);
         }
+        Ok(
+            self.dropped_random
+                + self.dropped_ge
+                + self.dropped_mtu
+                + self.dropped_blackout
+                + self.dropped_overflow,
+        )
     }
 
     // Whether refusal 25 lets the counters through: their bits together are below 2^60 where each of them is.
-    pub fn in_range(self) -> bool
-        ensures { result ≡ are_counters (stats_counters self) }
+    pub fn in_range(&self) -> bool
+        ensures { result ≡ are_counters (stats_counters self.now) }
     {
-        let hist = self.hist;
-        let bits = counters::counter_bits(hist);
+        let bits = counters::counter_bits(&self.hist);
         numbers::is_counter(
             self.received_pkts
                 | self.received_bytes
@@ -130,22 +117,23 @@ impl DirectionStats {
 }
 
 // The latencies among the statistics.
-pub(crate) fn latencies(s: DirectionStats) -> LatencyStats
-    ensures { result ≡ latencies_of s }
+#[tactic(auto, unfolding(crate::specs::Stats::latencies_of))]
+pub(crate) fn latencies(s: &DirectionStats) -> LatencyStats
+    ensures { result ≡ latencies_of s.now }
 {
-    let hist = s.hist;
     LatencyStats {
         count: s.latency_count,
         sum_ms: s.latency_sum_ms,
         min_ms: s.latency_min_ms,
         max_ms: s.latency_max_ms,
-        hist,
+        hist: s.hist,
     }
 }
 
 // The statistics with these latencies in place of their own.
-pub(crate) fn with_latencies(mut s: DirectionStats, l: LatencyStats) -> DirectionStats
-    ensures { result ≡ with_latencies_of s l }
+#[tactic(auto, unfolding(crate::specs::Stats::with_latencies_of))]
+pub(crate) fn with_latencies(mut s: DirectionStats, l: &LatencyStats) -> DirectionStats
+    ensures { result ≡ with_latencies_of s l.now }
 {
     let hist = l.hist;
     s.latency_count = l.count;

@@ -2,19 +2,19 @@
 use Rattle.std.specs.Prelude.{Bool, List, ℕ, Float}
 use Rattle.steps.specs.declared.decision.Decision.{Decision}
 use Rattle.steps.specs.declared.decision.Decision.TheVariants.{DropRandom, DropGe, DropMtu, DropBlackout, DropKillHold, Enqueue, KillRst}
-use Rattle.queue.specs.Calls.{push_of}
+use Rattle.queue.specs.Calls.{Handed, push_of}
 use Rattle.queue.specs.Tables.{Tables, After, after}
 use Rattle.queue.specs.declared.queue.ImpairQueue.{ImpairQueue}
 use Rattle.admission.specs.Admitted.{untouched, tallied_of, torn_of}
 use Rattle.admission.specs.declared.admitted.Admitted.{Admitted}
 
 -- the copies of a packet, pushed and counted
-unfoldable pub copies_of : ℕ → ImpairQueue → Tables → Bool → Float → Float → ℕ → List ℕ → After Admitted
+unfoldable pub copies_of : ℕ → ImpairQueue → Tables → Bool → Float → Float → ℕ → List ℕ → After (Handed Admitted)
 copies_of width q t duplicated due now route bytes =
     let o = push_of width q t due now route 0 duplicated bytes in
     after (tallied_of o.gives duplicated) o.memory
 
-unfoldable pub follow_of : ℕ → ImpairQueue → Tables → Decision → Float → ℕ → List ℕ → After Admitted
+unfoldable pub follow_of : ℕ → ImpairQueue → Tables → Decision → Float → ℕ → List ℕ → After (Handed Admitted)
 follow_of width q t DropRandom now route bytes = after (untouched q) t
 follow_of width q t DropGe now route bytes = after (untouched q) t
 follow_of width q t DropMtu now route bytes = after (untouched q) t

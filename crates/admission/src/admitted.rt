@@ -1,55 +1,29 @@
 // What an arrival did to the queue, counted.
 ghost use Rattle.std.specs.Prelude.{◌≡◌, ◌≤◌};
-ghost use Rattle.admission.specs.Admitted.{with_copies, out_of_keeping, untouched, asked_of, copies_in, tallied_of, torn_of};
+ghost use Rattle.admission.specs.Admitted.{with_copies, asked_of, copies_in, tallied_by, torn_by};
 
-use numbers::{REFUSED_FULL, REFUSED_KEEPING};
-use queue::{DrainAnswer, ImpairQueue, PushAnswer, Pushed};
+use numbers::Refusal;
+use queue::Entered;
 
-// The queue after an arrival, and the numbers of copies entered, overflowed and torn, and of resets. `number` is 26 where the queue was found out of
-// keeping, else 0.
+// The numbers of copies entered, overflowed and torn, and of resets.
 #[derive(Clone, Copy)]
 pub struct Admitted {
-    pub queue: ImpairQueue,
     pub entered: u64,
     pub overflowed: u64,
     pub torn: u64,
     pub resets: u64,
-    pub number: u32,
 }
 
-// The queue with so many copies entered and overflowed.
-fn with_copies(queue: ImpairQueue, entered: u64, overflowed: u64) -> Admitted
-    ensures { result ≡ with_copies queue entered overflowed }
+// So many copies entered and overflowed.
+pub(crate) fn with_copies(entered: u64, overflowed: u64) -> Admitted
+    ensures { result ≡ with_copies entered overflowed }
 {
     Admitted {
-        queue,
         entered,
         overflowed,
         torn: 0,
         resets: 0,
-        number: 0,
     }
-}
-
-// State or memory was altered: 26.
-fn out_of_keeping(queue: ImpairQueue) -> Admitted
-    ensures { result ≡ out_of_keeping queue }
-{
-    Admitted {
-        queue,
-        entered: 0,
-        overflowed: 0,
-        torn: 0,
-        resets: 0,
-        number: REFUSED_KEEPING,
-    }
-}
-
-// An arrival that leaves the queue as it is.
-pub(crate) fn untouched(queue: ImpairQueue) -> Admitted
-    ensures { result ≡ untouched queue }
-{
-    with_copies(queue, 0, 0)
 }
 
 // How many copies a packet has.
@@ -59,44 +33,40 @@ fn asked(duplicated: bool) -> u64
     if duplicated { 2 } else { 1 }
 }
 
-// The copies that entered; those that did not have overflowed.
-pub(crate) fn tallied(pushed: Pushed, duplicated: bool) -> Admitted
-    requires { copies_in pushed.answer ≤ asked_of duplicated }
-    ensures { result ≡ tallied_of pushed duplicated }
+// The copies that entered; those that did not have overflowed. Any other refusal than 28 means that state or memory was altered: 26.
+#[tactic(auto, unfolding(crate::specs::Admitted::tallied_by, crate::specs::Admitted::copies_in))]
+pub(crate) fn tallied(
+    pushed: Result<Entered, Refusal>,
+    duplicated: bool,
+) -> Result<Admitted, Refusal>
+    requires { copies_in pushed ≤ asked_of duplicated }
+    ensures { result ≡ tallied_by pushed (asked_of duplicated) }
 {
-    let queue = pushed.queue;
-    let answer = pushed.answer;
     let asked = asked(duplicated);
-    match answer {
-        PushAnswer::Entered { copies, .. } => {
-            with_copies(queue, copies as u64, asked - copies as u64)
-        }
-        PushAnswer::Refused(number) => {
-            if number == REFUSED_FULL {
-                with_copies(queue, 0, asked)
+    match pushed {
+        Ok(entered) => Ok(with_copies(entered.copies as u64, asked - entered.copies as u64)),
+        Err(refusal) => {
+            if refusal == Refusal::Full {
+                Ok(with_copies(0, asked))
             } else {
-                out_of_keeping(queue)
+                Err(Refusal::Keeping)
             }
         }
     }
 }
 
-// A reset: the held copies are torn down.
-pub(crate) fn torn(queue: ImpairQueue) -> Admitted
-    ensures { result ≡ torn_of queue }
+// A reset, which has torn down the copies that were held.
+#[tactic(auto, unfolding(crate::specs::Admitted::torn_by))]
+pub(crate) fn torn(drained: Result<usize, Refusal>) -> Result<Admitted, Refusal>
+    ensures { result ≡ torn_by drained }
 {
-    let drained = queue.drain();
-    let after = drained.queue;
-    let answer = drained.answer;
-    match answer {
-        DrainAnswer::Drained(copies) => Admitted {
-            queue: after,
+    match drained {
+        Ok(copies) => Ok(Admitted {
             entered: 0,
             overflowed: 0,
             torn: copies as u64,
             resets: 1,
-            number: 0,
-        },
-        DrainAnswer::Refused(_) => out_of_keeping(after),
+        }),
+        Err(_) => Err(Refusal::Keeping),
     }
 }

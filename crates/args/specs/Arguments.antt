@@ -1,6 +1,7 @@
 -- The arguments of an option text, and what they say of a key.
-use Rattle.std.specs.Prelude.{Bool, true, false, ◌&&◌, cond, List, [], ◌∷◌, ◌++◌, ℕ, suc, eqb, take, drop}
-use Rattle.numbers.specs.Refusals.{refused_argument, refused_value_lacking}
+use Rattle.std.specs.Prelude.{Bool, true, false, ◌&&◌, cond, List, [], ◌∷◌, ◌++◌, ℕ, suc, eqb, take, drop, Option, None, Some, Result, Ok, Err}
+use Rattle.numbers.specs.declared.refusal.Refusal.{Refusal}
+use Rattle.numbers.specs.declared.refusal.Refusal.TheVariants as refusal
 use Rattle.values.specs.Bytes.{bytes, same, has, before_first, behind_first, dash, equals}
 
 -- the arguments of a text (document 01, "Option text"): a zero byte ends each of them; a is what was read since the last one
@@ -33,35 +34,31 @@ pub data Item : Type 0 where
   flag : Item
   pair : List ℕ → List ℕ → Item
 
--- what was gathered, and 0 or the refusal that ended it
+-- what was gathered, and the refusal that ended it, where there was one
 pub record Gathered : Type 0 where
   pub items : List Item
-  pub refusal : ℕ
+  pub outcome : Result (Unit {0}) Refusal
 
-abbrev pub stop : ℕ → Gathered
-stop n = record { items = []; refusal = n }
+abbrev pub stop : Result (Unit {0}) Refusal → Gathered
+stop r = record { items = []; outcome = r }
 
 abbrev pub also : Item → Gathered → Gathered
-also i g = record { items = i ∷ g.items; refusal = g.refusal }
+also i g = record { items = i ∷ g.items; outcome = g.outcome }
 
--- a key that waits for the next argument as its value
-pub data Waiting : Type 0 where
-  none : Waiting
-  for : List ℕ → Waiting
-
--- a key and its value, from one argument with an `=` or from two, whatever the second starts with; `verbose` alone is a flag
-abbrev pub gather : Waiting → List (List ℕ) → Gathered
-gather none [] = stop 0
-gather (for k) [] = stop refused_value_lacking
-gather (for k) (v ∷ rest) = also (pair k v) (gather none rest)
-gather none (a ∷ rest) =
+-- a key and its value, from one argument with an `=` or from two, whatever the second starts with; `verbose` alone is a flag. The first argument is a key
+-- that waits for the next one as its value, where there is such a key.
+abbrev pub gather : Option (List ℕ) → List (List ℕ) → Gathered
+gather None [] = stop (Ok tt)
+gather (Some k) [] = stop (Err refusal.ValueLacking)
+gather (Some k) (v ∷ rest) = also (pair k v) (gather None rest)
+gather None (a ∷ rest) =
     cond (dashed a)
-    (cond (has equals a) (also (pair (key_of a) (behind_first equals a)) (gather none rest))
-    (cond (same (key_of a) (bytes "verbose")) (also flag (gather none rest)) (gather (for (key_of a)) rest)))
-    (stop refused_argument)
+    (cond (has equals a) (also (pair (key_of a) (behind_first equals a)) (gather None rest))
+    (cond (same (key_of a) (bytes "verbose")) (also flag (gather None rest)) (gather (Some (key_of a)) rest)))
+    (stop (Err refusal.Argument))
 
 unfoldable pub gathered : List ℕ → Gathered
-gathered s = gather none (arguments_of s)
+gathered s = gather None (arguments_of s)
 
 -- the values of a key, in the order of the text
 abbrev pub values_in : List ℕ → List Item → List (List ℕ)
@@ -79,13 +76,9 @@ flag_in (flag ∷ is) = true
 flag_in (pair a v ∷ is) = flag_in is
 
 -- the last of several values of a key, where there is one
-pub data Value : Type 0 where
-  absent : Value
-  given : List ℕ → Value
-
-abbrev pub last_from : Value → List (List ℕ) → Value
+abbrev pub last_from : Option (List ℕ) → List (List ℕ) → Option (List ℕ)
 last_from x [] = x
-last_from x (v ∷ vs) = last_from (given v) vs
+last_from x (v ∷ vs) = last_from (Some v) vs
 
-unfoldable pub last_value_of : List ℕ → List ℕ → Value
-last_value_of k s = last_from absent (values_of k s)
+unfoldable pub last_value_of : List ℕ → List ℕ → Option (List ℕ)
+last_value_of k s = last_from None (values_of k s)

@@ -1,82 +1,76 @@
--- Where in the text the scans find what they look for: the places that they answer.
-use Rattle.std.specs.Prelude.{Bool, true, false, cond, List, [], ◌∷◌, ℕ, zero, suc, ◌+◌, ◌-◌, length, take, drop}
-use Rattle.numbers.specs.Refusals.{refused_argument, refused_value_lacking}
-use Rattle.values.specs.Bytes.{bytes, up_to, has, before_first, same, equals}
-use Rattle.args.specs.declared.cursor.Arg.{Arg}
-use Rattle.args.specs.declared.cursor.Arg.TheVariants.{End, Refused, Flag, Pair}
-use Rattle.args.specs.declared.cursor.Step.{Step}
-use Rattle.args.specs.declared.cursor.Found.{Found}
-use Rattle.args.specs.declared.cursor.Found.TheVariants.{At, Nothing}
-use Rattle.args.specs.declared.cursor.Hit.{Hit}
-use Rattle.args.specs.Arguments.{dashes, dashed, key_of}
+-- What a cursor reads at each place of the text, and what the scans find.
+use Rattle.std.specs.Prelude.{Bool, true, false, cond, List, [], ◌∷◌, ℕ, zero, suc, ◌+◌, ◌-◌, length, drop, Option, None, Some, Result, Ok, Err}
+use Rattle.numbers.specs.declared.refusal.Refusal.{Refusal}
+use Rattle.numbers.specs.declared.refusal.Refusal.TheVariants as refusal
+use Rattle.values.specs.Bytes.{bytes, has, before_first, behind_first, same, equals}
+use Rattle.args.specs.Arguments.{dashed, key_of, Item, flag, pair}
 
--- the step from a place at: what stands there, and the place behind it
-abbrev pub step_at : ℕ → Arg → Step
-step_at at arg = record { cursor = record { at = at }; arg = arg }
+-- what is read: an argument, none at the end of the text, or a refusal
+abbrev pub Read : Type 0
+Read = Result (Option Item) Refusal
 
--- a key of n bytes at k whose value is the argument at m
-unfoldable pub valued_of : List ℕ → ℕ → ℕ → ℕ → ℕ → Step
-valued_of s at k n m =
+-- the step from a place: the place behind it, and what stands there
+abbrev pub Step : Type 0
+Step = ℕ × Read
+
+-- a key whose value is the argument at m
+unfoldable pub valued_of : List ℕ → ℕ → List ℕ → ℕ → Step
+valued_of s at k m =
     let more = drop m s in
-    let l = up_to 0 more in
-    cond (has 0 more) (step_at (m + (l + 1)) (Pair k n m l)) (step_at at (Refused refused_value_lacking))
+    let v = before_first 0 more in
+    cond (has 0 more) (m + (length v + 1), Ok (Some (pair k v))) (at, Err refusal.ValueLacking)
 
--- an argument of n bytes that starts with dashes
-unfoldable pub keyed_of : List ℕ → ℕ → ℕ → Step
-keyed_of s at n =
-    let a = take n (drop at s) in
-    let q = up_to equals a in
-    let k = at + dashes (before_first equals a) in
-    let key = key_of a in
-    let m = at + (n + 1) in
-    cond (has equals a) (step_at m (Pair k (length key) (at + (q + 1)) (n - (q + 1))))
-    (cond (same key (bytes "verbose")) (step_at m Flag) (valued_of s at k (length key) m))
+-- the argument a, which starts with dashes
+unfoldable pub keyed_of : List ℕ → ℕ → List ℕ → Step
+keyed_of s at a =
+    let m = at + (length a + 1) in
+    cond (has equals a) (m, Ok (Some (pair (key_of a) (behind_first equals a))))
+    (cond (same (key_of a) (bytes "verbose")) (m, Ok (Some flag)) (valued_of s at (key_of a) m))
 
 -- any argument, or the end of the text
 unfoldable pub next_of : List ℕ → ℕ → Step
 next_of s at =
     let rest = drop at s in
-    let n = up_to 0 rest in
-    cond (has 0 rest) (cond (dashed (take n rest)) (keyed_of s at n) (step_at at (Refused refused_argument))) (step_at at End)
+    let a = before_first 0 rest in
+    cond (has 0 rest) (cond (dashed a) (keyed_of s at a) (at, Err refusal.Argument)) (at, Ok None)
 
-abbrev pub has_next : Arg → Bool
-has_next End = false
-has_next (Refused n) = false
-has_next Flag = true
-has_next (Pair k n v l) = true
+abbrev pub has_next : Read → Bool
+has_next (Ok None) = false
+has_next (Ok (Some i)) = true
+has_next (Err e) = false
 
 -- the steps from a place on, until the text ends or is refused; there is at most one more than bytes are left
 abbrev pub steps_from : ℕ → List ℕ → ℕ → List Step
 steps_from zero s at = []
-steps_from (suc most) s at = next_of s at ∷ cond (has_next (next_of s at).arg) (steps_from most s (next_of s at).cursor.at) []
+steps_from (suc most) s at = next_of s at ∷ cond (has_next (next_of s at).1) (steps_from most s (next_of s at).0) []
 
 unfoldable pub steps_of : List ℕ → ℕ → List Step
 steps_of s at = steps_from (suc (length s - at)) s at
 
--- the first step with the key k, or the last step
-abbrev pub hit_at : List ℕ → List ℕ → Step → Arg → Hit → Hit
-hit_at s k r End later = record { cursor = r.cursor; found = Nothing }
-hit_at s k r (Refused n) later = record { cursor = r.cursor; found = Nothing }
-hit_at s k r Flag later = later
-hit_at s k r (Pair a n v l) later = cond (same (take n (drop a s)) k) (record { cursor = r.cursor; found = At v l }) later
+-- the first value of the key k, and the place behind it, or that of the last step
+abbrev pub hit_at : List ℕ → ℕ → Read → ℕ × Option (List ℕ) → ℕ × Option (List ℕ)
+hit_at k at (Ok None) later = (at, None)
+hit_at k at (Ok (Some flag)) later = later
+hit_at k at (Ok (Some (pair a v))) later = cond (same a k) (at, Some v) later
+hit_at k at (Err e) later = (at, None)
 
-abbrev pub hit_in : List ℕ → List ℕ → List Step → Hit
-hit_in s k [] = record { cursor = record { at = 0 }; found = Nothing }
-hit_in s k (r ∷ rs) = hit_at s k r r.arg (hit_in s k rs)
+abbrev pub hit_in : List ℕ → List Step → ℕ × Option (List ℕ)
+hit_in k [] = (0, None)
+hit_in k (r ∷ rs) = hit_at k r.0 r.1 (hit_in k rs)
 
-unfoldable pub hit_of : List ℕ → List ℕ → ℕ → Hit
-hit_of s k at = hit_in s k (steps_of s at)
+unfoldable pub hit_of : List ℕ → List ℕ → ℕ → ℕ × Option (List ℕ)
+hit_of s k at = hit_in k (steps_of s at)
 
--- the last place of a value of the key k
-abbrev pub last_at : List ℕ → List ℕ → Arg → Found → Found
-last_at s k End f = f
-last_at s k (Refused n) f = f
-last_at s k Flag f = f
-last_at s k (Pair a n v l) f = cond (same (take n (drop a s)) k) (At v l) f
+-- the last value of the key k
+abbrev pub last_at : List ℕ → Read → Option (List ℕ) → Option (List ℕ)
+last_at k (Ok None) f = f
+last_at k (Ok (Some flag)) f = f
+last_at k (Ok (Some (pair a v))) f = cond (same a k) (Some v) f
+last_at k (Err e) f = f
 
-abbrev pub last_in : List ℕ → List ℕ → Found → List Step → Found
-last_in s k f [] = f
-last_in s k f (r ∷ rs) = last_in s k (last_at s k r.arg f) rs
+abbrev pub last_in : List ℕ → Option (List ℕ) → List Step → Option (List ℕ)
+last_in k f [] = f
+last_in k f (r ∷ rs) = last_in k (last_at k r.1 f) rs
 
-unfoldable pub last_of : List ℕ → List ℕ → Found
-last_of s k = last_in s k Nothing (steps_of s 0)
+unfoldable pub last_of : List ℕ → List ℕ → Option (List ℕ)
+last_of s k = last_in k None (steps_of s 0)

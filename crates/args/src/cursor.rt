@@ -1,10 +1,12 @@
 // A cursor over the arguments of a text; a zero byte ends each.
 ghost use Rattle.std.specs.Prelude.{◌≡◌, ◌++◌, ◌+◌, ◌≤◌, length};
+ghost use Rattle.std.specs.Option.{option_map};
+ghost use Rattle.args.specs.Items.{read_of};
 ghost use Rattle.args.specs.Places.{next_of, keyed_of, valued_of, hit_of};
 
-use crate::dashes::dashes_of;
-use numbers::{REFUSED_ARGUMENT, REFUSED_VALUE_LACKING};
-use values::{after, front, is_same, part, up_to};
+use crate::dashes::stripped;
+use numbers::Refusal;
+use values::{after, before_first, split_once};
 
 // A place in the text, where the next argument starts.
 #[derive(Clone, Copy)]
@@ -12,32 +14,11 @@ pub struct Cursor {
     pub at: usize,
 }
 
-// What stands at a cursor: a key and a value are each a place and a length.
-#[derive(Clone, Copy)]
-pub enum Arg {
-    End,
-    Refused(u32),
+// An argument of a text: the bare flag, or a key with its value.
+#[derive(Clone, Copy, Debug, PartialEq, Eq)]
+pub enum Arg<'t> {
     Flag,
-    Pair(usize, usize, usize, usize),
-}
-
-#[derive(Clone, Copy)]
-pub struct Step {
-    pub cursor: Cursor,
-    pub arg: Arg,
-}
-
-// Where a value stands: its place and its length.
-#[derive(Clone, Copy)]
-pub enum Found {
-    At(usize, usize),
-    Nothing,
-}
-
-#[derive(Clone, Copy)]
-pub struct Hit {
-    pub cursor: Cursor,
-    pub found: Found,
+    Pair(&'t [u8], &'t [u8]),
 }
 
 impl Cursor {
@@ -47,114 +28,99 @@ impl Cursor {
         Cursor { at: 0 }
     }
 
-    // The argument at the cursor, and the cursor behind it.
-    pub fn next(self, text: &[u8]) -> Step
-        ensures { result ≡ next_of text.now self.at }
+    // The argument at the cursor, none at the end of the text, and the cursor behind it.
+    pub fn next(self, text: &[u8]) -> (Cursor, Result<Option<Arg>, Refusal>)
+        ensures { (result.0.at, read_of result.1) ≡ next_of text.now self.at }
     {
-        let at = self.at;
-        let rest = after(text, at);
-        let n = up_to(rest, 0);
-        if rest.len() <= n {
-            return Step {
-                cursor: self,
-                arg: Arg::End,
-            };
+        match split_once(after(text, self.at), 0) {
+            None => (self, Ok(None)),
+            Some((argument, _)) => {
+                if argument.starts_with(b"--") {
+                    self.keyed(text, argument)
+                } else {
+                    (self, Err(Refusal::Argument))
+                }
+            }
         }
-        if !is_same(front(front(rest, n), 2), b"--") {
-            return Step {
-                cursor: self,
-                arg: Arg::Refused(REFUSED_ARGUMENT),
-            };
-        }
-        self.keyed(text, n)
     }
 
-    // The argument of n bytes at the cursor, which starts with dashes: its key, and its value where it has one.
-    fn keyed(mut self, text: &[u8], n: usize) -> Step
-        requires { self.at + (n + 1) ≤ length text.now }
-        ensures { result ≡ keyed_of text.now self.at n }
+    // The argument at the cursor, which starts with dashes: its key, and its value where it has one.
+    fn keyed<'t>(
+        mut self,
+        text: &'t [u8],
+        argument: &'t [u8],
+    ) -> (Cursor, Result<Option<Arg<'t>>, Refusal>)
+        requires { self.at + (length argument.now + 1) ≤ length text.now }
+        ensures { (result.0.at, read_of result.1) ≡ keyed_of text.now self.at argument.now }
     {
-        let at = self.at;
-        let a = part(text, at, n);
-        let q = up_to(a, b'=');
-        let k = front(a, q);
-        let d = dashes_of(k);
-        let key = after(k, d);
-        let m = at + (n + 1);
-        if q < a.len() {
-            self.at = m;
-            return Step {
-                cursor: self,
-                arg: Arg::Pair(at + d, key.len(), at + (q + 1), n - (q + 1)),
-            };
+        let key = stripped(before_first(argument, b'='));
+        let behind = self.at + (argument.len() + 1);
+        match split_once(argument, b'=') {
+            Some((_, value)) => {
+                self.at = behind;
+                (self, Ok(Some(Arg::Pair(key, value))))
+            }
+            None => {
+                if key == b"verbose".as_slice() {
+                    self.at = behind;
+                    return (self, Ok(Some(Arg::Flag)));
+                }
+                self.valued(text, key, behind)
+            }
         }
-        if is_same(key, b"verbose") {
-            self.at = m;
-            return Step {
-                cursor: self,
-                arg: Arg::Flag,
-            };
-        }
-        self.valued(text, at + d, key.len(), m)
     }
 
-    // The key at this place and of this length, with the argument at m for its value.
-    fn valued(mut self, text: &[u8], key: usize, len: usize, m: usize) -> Step
-        requires { m ≤ length text.now }
-        ensures { result ≡ valued_of text.now self.at key len m }
+    // The key with the argument at `from` for its value.
+    fn valued<'t>(
+        mut self,
+        text: &'t [u8],
+        key: &'t [u8],
+        from: usize,
+    ) -> (Cursor, Result<Option<Arg<'t>>, Refusal>)
+        requires { from ≤ length text.now }
+        ensures { (result.0.at, read_of result.1) ≡ valued_of text.now self.at key.now from }
     {
-        let more = after(text, m);
-        let l = up_to(more, 0);
-        if more.len() <= l {
-            return Step {
-                cursor: self,
-                arg: Arg::Refused(REFUSED_VALUE_LACKING),
-            };
-        }
-        self.at = m + (l + 1);
-        Step {
-            cursor: self,
-            arg: Arg::Pair(key, len, m, l),
+        match split_once(after(text, from), 0) {
+            None => (self, Err(Refusal::ValueLacking)),
+            Some((value, _)) => {
+                self.at = from + (value.len() + 1);
+                (self, Ok(Some(Arg::Pair(key, value))))
+            }
         }
     }
 
     // The next value of the key `prefix` then `name`, and the cursor behind it.
-    pub fn next_of(mut self, text: &[u8], prefix: &[u8], name: &[u8]) -> Hit
-        ensures { result ≡ hit_of text.now (prefix.now ++ name.now) self.at }
+    pub fn next_of<'t>(
+        mut self,
+        text: &'t [u8],
+        prefix: &[u8],
+        name: &[u8],
+    ) -> (Cursor, Option<&'t [u8]>)
+        ensures { (result.0.at, option_map (λ v. v.now) result.1) ≡ hit_of text.now (prefix.now ++ name.now) self.at }
     {
         'args: loop {
-            let step = self.next(text);
-            let cursor = step.cursor;
+            let (cursor, read) = self.next(text);
             self = cursor;
-            let arg = step.arg;
-            match arg {
-                Arg::End => break 'args,
-                Arg::Refused(_) => break 'args,
-                Arg::Flag => continue 'args,
-                Arg::Pair(k, n, v, l) => {
-                    let key = part(text, k, n);
-                    if !is_same(front(key, prefix.len()), prefix) {
+            match read {
+                Err(_) => return (self, None),
+                Ok(None) => return (self, None),
+                Ok(Some(Arg::Flag)) => continue 'args,
+                Ok(Some(Arg::Pair(key, value))) => {
+                    let Some(tail) = key.strip_prefix(prefix) else {
                         continue 'args;
-                    }
-                    let tail = after(key, prefix.len());
+                    };
                     if tail.len() != name.len() {
                         continue 'args;
                     }
-                    for j in 0..name.len() {
-                        if tail[j] != name[j] {
+                    // Byte by byte, and not by `==`: a scan leaves its nested loops by label (document 01).
+                    for (place, wanted) in name.iter().enumerate() {
+                        if tail[place] != *wanted {
                             continue 'args;
                         }
                     }
-                    return Hit {
-                        cursor: self,
-                        found: Found::At(v, l),
-                    };
+                    return (self, Some(value));
                 }
             }
-        }
-        Hit {
-            cursor: self,
-            found: Found::Nothing,
         }
     }
 }

@@ -1,20 +1,14 @@
 // The dashes in front of a key.
 ghost use Rattle.std.specs.Prelude.{◌≡◌};
-ghost use Rattle.args.specs.Arguments.{dashes};
+ghost use Rattle.args.specs.Arguments.{stripped};
 
-// How many bytes the `--` pairs at the front have.
-pub fn dashes_of(k: &[u8]) -> usize
-    ensures { result ≡ dashes k.now }
+// The key without the `--` pairs at the front.
+pub fn stripped(k: &[u8]) -> &[u8]
+    ensures { result.now ≡ stripped k.now }
 {
-    let mut i: usize = 0;
-    while i + 1 < k.len() {
-        if k[i] != b'-' {
-            break;
-        }
-        if k[i + 1] != b'-' {
-            break;
-        }
-        i += 2;
+    let mut left = k;
+    while let Some(rest) = left.strip_prefix(b"--") {
+        left = rest;
     }
-    i
+    left
 }

@@ -5,5 +5,5 @@ mod cursor;
 mod dashes;
 mod scans;
 
-pub use cursor::{Arg, Cursor, Found, Hit, Step};
-pub use scans::{has_flag, last_of, refusal_of};
+pub use cursor::{Arg, Cursor};
+pub use scans::{check, has_flag, last_of};

@@ -1,25 +1,23 @@
 // Scans of the whole text: its argument list, the bare flag, the last value of a key.
 ghost use Rattle.std.specs.Prelude.{◌≡◌, ◌++◌};
-ghost use Rattle.args.specs.Arguments.{gathered, flag_in};
-ghost use Rattle.args.specs.Places.{last_of};
+ghost use Rattle.std.specs.Option.{option_map};
+ghost use Rattle.args.specs.Arguments.{gathered, flag_in, last_value_of};
 
-use crate::cursor::{Arg, Cursor, Found};
+use crate::cursor::{Arg, Cursor};
+use numbers::Refusal;
 
-// 0, or the refusal of the argument list.
-pub fn refusal_of(text: &[u8]) -> u32
-    ensures { result ≡ (gathered text.now).refusal }
+// The refusal of the argument list, where there is one.
+pub fn check(text: &[u8]) -> Result<(), Refusal>
+    ensures { result ≡ (gathered text.now).outcome }
 {
     let mut cursor = Cursor::new();
     loop {
-        let step = cursor.next(text);
-        let next = step.cursor;
+        let (next, read) = cursor.next(text);
         cursor = next;
-        let arg = step.arg;
-        match arg {
-            Arg::End => return 0,
-            Arg::Refused(n) => return n,
-            Arg::Flag => continue,
-            Arg::Pair(_, _, _, _) => continue,
+        match read {
+            Err(refusal) => return Err(refusal),
+            Ok(None) => return Ok(()),
+            Ok(Some(_)) => continue,
         }
     }
 }
@@ -30,33 +28,29 @@ pub fn has_flag(text: &[u8]) -> bool
 {
     let mut cursor = Cursor::new();
     loop {
-        let step = cursor.next(text);
-        let next = step.cursor;
+        let (next, read) = cursor.next(text);
         cursor = next;
-        let arg = step.arg;
-        match arg {
-            Arg::End => return false,
-            Arg::Refused(_) => return false,
-            Arg::Flag => return true,
-            Arg::Pair(_, _, _, _) => continue,
+        match read {
+            Err(_) => return false,
+            Ok(None) => return false,
+            Ok(Some(Arg::Flag)) => return true,
+            Ok(Some(Arg::Pair(_, _))) => continue,
         }
     }
 }
 
-// Where the last value of the key `prefix` then `name` stands.
-pub fn last_of(text: &[u8], prefix: &[u8], name: &[u8]) -> Found
-    ensures { result ≡ last_of text.now (prefix.now ++ name.now) }
+// The last value of the key `prefix` then `name`.
+pub fn last_of<'t>(text: &'t [u8], prefix: &[u8], name: &[u8]) -> Option<&'t [u8]>
+    ensures { option_map (λ v. v.now) result ≡ last_value_of (prefix.now ++ name.now) text.now }
 {
     let mut cursor = Cursor::new();
-    let mut last = Found::Nothing;
+    let mut last = None;
     loop {
-        let hit = cursor.next_of(text, prefix, name);
-        let next = hit.cursor;
+        let (next, value) = cursor.next_of(text, prefix, name);
         cursor = next;
-        let found = hit.found;
-        match found {
-            Found::Nothing => return last,
-            Found::At(v, l) => last = Found::At(v, l),
+        match value {
+            None => return last,
+            Some(v) => last = Some(v),
         }
     }
 }

@@ -3,9 +3,7 @@ use crate::state::State;
 
 pub fn answer(out: &mut [u8], mut s: State, now: u64, len: u64) -> State {
     let engine = s.engine;
-    let d = engine.decide(script::float_of_bits(now), len as usize);
-    let moved = d.engine;
-    let decided = d.answer;
+    let (moved, decided) = engine.decide(script::float_of_bits(now), len as usize);
     s.engine = moved;
     s.at = engine_words::decided(out, s.at, decided);
     s

@@ -1,6 +1,5 @@
 // The line `options HEX`: the option text is read, and kept for the engines of later lines.
 use crate::state::State;
-use options::Outcome;
 use output::collected;
 use script::answers;
 
@@ -12,10 +11,9 @@ pub fn answer(out: &mut [u8], mut s: State, text: &[u8], length: usize) -> State
 
 // Whether the option text is taken.
 fn parsed(out: &mut [u8], at: usize, text: &[u8]) -> usize {
-    let p = options::parse_config(text);
-    let outcome = p.outcome;
-    match outcome {
-        Outcome::Taken => collected::text(out, at, b"taken"),
-        Outcome::Refused(n) => answers::refused(out, at, n),
+    let (_, answer) = options::parse_config(text);
+    match answer {
+        Ok(()) => collected::text(out, at, b"taken"),
+        Err(refusal) => answers::refused(out, at, refusal.number()),
     }
 }

@@ -2,7 +2,6 @@
 use crate::words;
 use crate::words::{Asked, Call};
 use script::{Beyond, Decoded, Event, Pattern};
-use values::Whole;
 
 // A call with its numbers: of an option text its length; instants by their bits; of an engine whether it is that of c2s, and the seed. Bad is a line that asks
 // for nothing, and Nothing is no line.
@@ -55,16 +54,12 @@ fn options(text: Decoded) -> Request {
 fn new_engine(rest: &[u8]) -> Request {
     let direction = script::first_word(rest);
     match values::parse_u64(script::rest(rest)) {
-        Whole::Number(seed) => {
-            if values::is_same(direction, b"c2s") {
-                Request::Engine(true, seed)
-            } else if values::is_same(direction, b"s2c") {
-                Request::Engine(false, seed)
-            } else {
-                Request::Bad
-            }
-        }
-        Whole::Refused(_) => Request::Bad,
+        Ok(seed) => match direction {
+            b"c2s" => Request::Engine(true, seed),
+            b"s2c" => Request::Engine(false, seed),
+            _ => Request::Bad,
+        },
+        Err(_) => Request::Bad,
     }
 }
 
@@ -72,8 +67,8 @@ fn new_engine(rest: &[u8]) -> Request {
 fn arrival(rest: &[u8]) -> Request {
     match script::pattern_of(script::first_word(rest)) {
         Pattern::Bits(now) => match values::parse_u64(script::rest(rest)) {
-            Whole::Number(len) => Request::Decide(now, len),
-            Whole::Refused(_) => Request::Bad,
+            Ok(len) => Request::Decide(now, len),
+            Err(_) => Request::Bad,
         },
         Pattern::Wrong => Request::Bad,
     }

@@ -14,8 +14,7 @@ impl State {
     // Before the first line: no option text, and an engine of the default settings.
     pub fn new() -> Self {
         let settings = DirectionConfig::default();
-        let made = ArrivalEngine::new(settings, 0);
-        let engine = made.engine;
+        let (engine, _) = ArrivalEngine::new(settings, 0);
         State {
             at: 0,
             length: 0,

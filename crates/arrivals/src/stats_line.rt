@@ -5,9 +5,7 @@ use output::collected;
 
 pub fn overflow(out: &mut [u8], mut s: State) -> State {
     let engine = s.engine;
-    let changed = engine.stats_inc_overflow();
-    let outcome = changed.outcome;
-    let moved = changed.engine;
+    let (moved, outcome) = engine.stats_inc_overflow();
     s.engine = moved;
     s.at = engine_words::outcome(out, s.at, b"overflow", outcome);
     s

@@ -13,9 +13,7 @@ pub fn answer(out: &mut [u8], s: State, asked: Asked, now: u64) -> State {
 
 fn rebind(out: &mut [u8], mut s: State, now_ms: f64) -> State {
     let engine = s.engine;
-    let rebound = engine.should_rebind_now(now_ms);
-    let moved = rebound.engine;
-    let answer = rebound.answer;
+    let (moved, answer) = engine.should_rebind_now(now_ms);
     s.engine = moved;
     s.at = engine_words::said(out, s.at, b"rebind ", answer);
     s

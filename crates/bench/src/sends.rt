@@ -7,11 +7,11 @@ pub fn run() {
     let mut rng = Rng::new(1);
     let mut accountant = SendAccountant::default();
     for _ in 0..50000000u32 {
-        let drawn = rng.next_u64();
-        rng = drawn.rng;
-        let latency_ms = std::num::nearest_u64_to_f64(drawn.value % 16384) * 0.5;
-        let sent = accountant.on_send((drawn.value % 2048) as usize, latency_ms);
-        accountant = sent.accountant;
+        let (after, value) = rng.next_u64();
+        rng = after;
+        let latency_ms = std::num::nearest_u64_to_f64(value % 16384) * 0.5;
+        let (sent, _) = accountant.on_send((value % 2048) as usize, latency_ms);
+        accountant = sent;
     }
     print_counts(accountant);
 }

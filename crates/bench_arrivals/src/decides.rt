@@ -1,21 +1,18 @@
 // Ten million packets arrive at an engine of an option text's c2s settings, and what was decided is summed up, so that
 // the work cannot be left out.
 use accounts::DirectionStats;
-use engine::{ArrivalEngine, DecideAnswer};
+use engine::ArrivalEngine;
+use numbers::Refusal;
 use steps::Decision;
 
 pub fn run(text: &[u8]) {
-    let parsed = options::parse_config(text);
-    let config = parsed.config;
-    let settings = config.c2s;
-    let made = ArrivalEngine::new(settings, 1);
-    let mut engine = made.engine;
+    let (config, _) = options::parse_config(text);
+    let (mut engine, _) = ArrivalEngine::new(config.c2s, 1);
     let mut now_ms = 0.0;
     let mut sum: u64 = 0;
     for i in 0..10000000u64 {
-        let decided = engine.decide(now_ms, (i % 1500) as usize);
-        engine = decided.engine;
-        let answer = decided.answer;
+        let (after, answer) = engine.decide(now_ms, (i % 1500) as usize);
+        engine = after;
         sum = std::num::wrapping_add_u64(sum, weight(answer));
         now_ms = now_ms + 0.001;
     }
@@ -25,10 +22,10 @@ pub fn run(text: &[u8]) {
 }
 
 // The bits of the due; a small number for each other answer.
-fn weight(answer: DecideAnswer) -> u64 {
+fn weight(answer: Result<Decision, Refusal>) -> u64 {
     match answer {
-        DecideAnswer::Decided(decision) => decision_weight(decision),
-        DecideAnswer::Refused(n) => n as u64,
+        Ok(decision) => decision_weight(decision),
+        Err(refusal) => u64::from(refusal.number()),
     }
 }
 

@@ -5,6 +5,7 @@ mod rounds;
 mod sums;
 
 use device::Device;
+use queue::{Rows, RowsMut, Tree, TreeMut};
 
 // The salt of the direction.
 const SALT: u64 = 1;
@@ -28,46 +29,21 @@ pub extern "C" fn bench_device(
     cap: usize,
     count: u64,
 ) -> u64 {
-    let device = created(
-        text, cap, win, free, dues, seqs, arrivals, routes, copy_ids, lengths, store,
-    );
-    let ran = rounds::run(
-        device, win, free, dues, seqs, arrivals, routes, copy_ids, lengths, store, source, sent,
-        count,
-    );
-    sums::of_ran(ran)
-}
-
-fn created(
-    text: &[u8],
-    cap: usize,
-    win: &[u32],
-    free: &[u32],
-    dues: &[f64],
-    seqs: &[u64],
-    arrivals: &[f64],
-    routes: &[u64],
-    copy_ids: &[u32],
-    lengths: &[u32],
-    store: &[u8],
-) -> Device {
-    let parsed = options::parse_config(text);
-    let config = parsed.config;
-    let settings = config.c2s;
-    let created = Device::create(
-        settings,
-        config.seed,
-        SALT,
-        cap,
-        win,
-        free,
-        dues,
-        seqs,
+    let mut tree = TreeMut { win, dues, seqs };
+    let mut rows = RowsMut {
         arrivals,
         routes,
         copy_ids,
         lengths,
         store,
-    );
-    created.device
+    };
+    let device = created(text, cap, tree.shared(), free, rows.shared());
+    let ran = rounds::run(device, &mut tree, free, &mut rows, source, sent, count);
+    sums::of_ran(ran)
+}
+
+fn created(text: &[u8], cap: usize, tree: Tree<'_>, free: &[u32], rows: Rows<'_>) -> Device {
+    let (config, _) = options::parse_config(text);
+    let (device, _) = Device::create(config.c2s, config.seed, SALT, cap, tree, free, rows);
+    device
 }

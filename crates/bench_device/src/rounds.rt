@@ -1,6 +1,7 @@
 // The loop of arrivals and releases. The device stays in one local, and each call stands once in the program, so that both can be inlined.
 use crate::sums;
 use device::Device;
+use queue::{RowsMut, TreeMut};
 
 // The instant goes on by so much from one arrival to the next, in milliseconds.
 const STEP_MS: f64 = 0.01;
@@ -21,43 +22,30 @@ pub(crate) struct Ran {
 // A packet arrives `count` times, and each time all that is due leaves.
 pub(crate) fn run(
     mut device: Device,
-    win: &mut [u32],
+    tree: &mut TreeMut<'_>,
     free: &mut [u32],
-    dues: &mut [f64],
-    seqs: &mut [u64],
-    arrivals: &mut [f64],
-    routes: &mut [u64],
-    copy_ids: &mut [u32],
-    lengths: &mut [u32],
-    store: &mut [u8],
+    rows: &mut RowsMut<'_>,
     source: &[u8],
     sent: &mut [u8],
     count: u64,
 ) -> Ran {
     let mut now_ms = 0.0;
     let mut sum: u64 = 0;
-    let mut left = count;
-    while 0 < left {
+    for turn in 0..count {
+        let left = count - turn;
         let bytes = tables::part(source, WIDTH, (left % SOURCES) as u32, LENGTH);
-        let arrived = device.arrive(
-            win, free, dues, seqs, arrivals, routes, copy_ids, lengths, store, now_ms, bytes, left,
-        );
-        device = arrived.device;
-        let entered = arrived.answer;
-        sum = sums::with_arrival(sum, entered);
-        let queue = device.queue;
-        let mut most = queue.held;
-        while 0 < most {
-            let released = device.release(
-                win, free, dues, seqs, arrivals, routes, copy_ids, lengths, store, now_ms,
-            );
-            device = released.device;
-            let answer = released.answer;
-            sum = sums::send_answer(sum, store, answer, sent);
-            most = sums::most_after(answer, most);
+        let (after, arrived) = device.arrive(tree, free, rows, now_ms, bytes, left);
+        device = after;
+        sum = sums::with_arrival(sum, arrived);
+        for _ in 0..device.queue.held {
+            let (after, released) = device.release(tree, free, rows.shared(), now_ms);
+            device = after;
+            sum = sums::send_answer(sum, rows.store, released, sent);
+            if !sums::has_left(released) {
+                break;
+            }
         }
-        now_ms = now_ms + STEP_MS;
-        left -= 1;
+        now_ms += STEP_MS;
     }
     Ran { device, sum }
 }

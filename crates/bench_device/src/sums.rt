@@ -1,9 +1,8 @@
 // What the calls answer, summed up, so that none of their work can be left out.
-ghost use Rattle.std.specs.Prelude.{◌<◌};
-
 use crate::rounds::Ran;
-use device::{ArriveAnswer, Reported};
-use queue::{Queued, ReleaseAnswer};
+use device::{Arrived, Report};
+use numbers::Refusal;
+use queue::Queued;
 
 // The bytes of a slot, and so of the buffer to which the bytes of what left go.
 const SLOT_WIDTH: u32 = 2048;
@@ -15,7 +14,7 @@ fn add(sum: u64, weight: u64) -> u64 {
 
 // The bits of a float, and 0 for a NaN.
 fn bits(x: f64) -> u64 {
-    if x != x { 0 } else { f64::to_bits(x) }
+    if x.is_nan() { 0 } else { f64::to_bits(x) }
 }
 
 fn wide(b: u8) -> u64 {
@@ -27,16 +26,16 @@ fn first(bytes: &[u8]) -> u64 {
 }
 
 // The sum with how many copies entered and overflowed.
-pub(crate) fn with_arrival(sum: u64, answer: ArriveAnswer) -> u64 {
+pub(crate) fn with_arrival(sum: u64, answer: Result<Arrived, Refusal>) -> u64 {
     match answer {
-        ArriveAnswer::Decided {
-            entered,
-            overflowed,
-            ..
-        } => add(sum, std::num::wrapping_add_u64(entered, overflowed << 8)),
-        ArriveAnswer::Refused(number) => {
-            add(sum, std::num::wrapping_add_u64(number as u64, 1000))
-        }
+        Ok(arrived) => add(
+            sum,
+            std::num::wrapping_add_u64(arrived.entered, arrived.overflowed << 8),
+        ),
+        Err(refusal) => add(
+            sum,
+            std::num::wrapping_add_u64(refusal.number() as u64, 1000),
+        ),
     }
 }
 
@@ -55,33 +54,33 @@ fn send(store: &[u8], copy: Queued, sent: &mut [u8]) -> u64 {
 }
 
 // The sum with what left, and with the number of a refusal.
-pub(crate) fn send_answer(sum: u64, store: &[u8], answer: ReleaseAnswer, sent: &mut [u8]) -> u64 {
+pub(crate) fn send_answer(
+    sum: u64,
+    store: &[u8],
+    answer: Result<Option<Queued>, Refusal>,
+    sent: &mut [u8],
+) -> u64 {
     match answer {
-        ReleaseAnswer::Released(copy) => add(sum, send(store, copy, sent)),
-        ReleaseAnswer::NoneDue => sum,
-        ReleaseAnswer::Refused(number) => add(sum, number as u64),
+        Ok(Some(copy)) => add(sum, send(store, copy, sent)),
+        Ok(None) => sum,
+        Err(refusal) => add(sum, refusal.number() as u64),
     }
 }
 
-// How many copies more can leave, where at most `most` could: none once none is due.
-pub(crate) fn most_after(answer: ReleaseAnswer, most: u32) -> u32
-    requires { 0 < most }
-    ensures { result < most }
-{
-    match answer {
-        ReleaseAnswer::Released(_) => most - 1,
-        ReleaseAnswer::NoneDue => 0,
-        ReleaseAnswer::Refused(_) => 0,
-    }
+// Whether a copy left; another can be due then.
+pub(crate) fn has_left(answer: Result<Option<Queued>, Refusal>) -> bool {
+    matches!(answer, Ok(Some(_)))
 }
 
-// The sum of a run with the counts and latencies of its report.
+// The sum of a run with the counts and latencies of its report; a report that is refused adds its number.
 pub(crate) fn of_ran(ran: Ran) -> u64 {
-    let after = ran.device;
-    of_report(ran.sum, after.report())
+    match ran.device.report() {
+        Ok(report) => of_report(ran.sum, report),
+        Err(refusal) => add(ran.sum, refusal.number() as u64),
+    }
 }
 
-fn of_report(sum: u64, report: Reported) -> u64 {
+fn of_report(sum: u64, report: Report) -> u64 {
     let s = report.stats;
     let arrived = add(add(sum, s.received_pkts), s.received_bytes);
     let dropped = add(add(arrived, s.dropped_random), s.dropped_overflow);
@@ -92,14 +91,10 @@ fn of_report(sum: u64, report: Reported) -> u64 {
         add(latencies, bits(s.latency_min_ms)),
         bits(s.latency_max_ms),
     );
-    let hist = s.hist;
-    of_hist(add(bounds, report.held), hist)
+    of_hist(add(bounds, report.held), s.hist)
 }
 
 // The sum with each count of a histogram.
-fn of_hist(mut sum: u64, hist: [u64; 12]) -> u64 {
-    for i in 0..12usize {
-        sum = add(sum, hist[i]);
-    }
-    sum
+fn of_hist(sum: u64, hist: [u64; 12]) -> u64 {
+    hist.iter().fold(sum, |sum, count| add(sum, *count))
 }

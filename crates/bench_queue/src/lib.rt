@@ -3,7 +3,7 @@
 
 mod turns;
 
-use queue::ImpairQueue;
+use queue::{ImpairQueue, Packet, RowsMut, TreeMut};
 use turns::Turns;
 
 // A copy enters `count` times, and whenever more than `held` are held then, one leaves. Returned is a sum of what left.
@@ -25,42 +25,35 @@ pub extern "C" fn bench_queue(
     count: u64,
     seed: u64,
 ) -> u64 {
-    let created = ImpairQueue::create(
-        cap, win, free, dues, seqs, arrivals, routes, copy_ids, lengths, store,
-    );
-    let queue = created.queue;
+    let mut tree = TreeMut { win, dues, seqs };
+    let mut rows = RowsMut {
+        arrivals,
+        routes,
+        copy_ids,
+        lengths,
+        store,
+    };
+    let (queue, _) = ImpairQueue::create(cap, tree.shared(), free, rows.shared());
     let mut turns = Turns {
         queue,
         now_ms: 0.0,
         draw: seed,
         sum: 0,
     };
-    let mut left = count;
-    while 0 < left {
+    for _ in 0..count {
         let drawn = turns.drawn();
-        let before = drawn.queue;
-        let pushed = before.push(
-            win,
-            free,
-            dues,
-            seqs,
-            arrivals,
-            routes,
-            copy_ids,
-            lengths,
-            store,
-            drawn.due_ms(),
-            drawn.now_ms,
-            drawn.draw,
-            0,
-            false,
-            drawn.bytes(source),
-        );
-        let after = pushed.queue;
-        turns = drawn.with(after).leave(
-            win, free, dues, seqs, arrivals, routes, copy_ids, lengths, store, sent, held,
-        );
-        left -= 1;
+        let queue = drawn.queue;
+        let packet = Packet {
+            due_ms: drawn.due_ms(),
+            arrival_ms: drawn.now_ms,
+            route: drawn.draw,
+            copy_id: 0,
+            duplicated: false,
+        };
+        let (after, _) = queue.push(&mut tree, free, &mut rows, packet, drawn.bytes(source));
+        turns = drawn
+            .with(after)
+            .leave(&mut tree, free, rows.shared(), sent, held);
     }
     turns.sum
 }

@@ -1,5 +1,6 @@
 // What a copy that enters is made of; one leaves, and what left is summed up, so that the work cannot be left out.
-use queue::{DueAnswer, ImpairQueue, Queued, ReleaseAnswer};
+use numbers::Refusal;
+use queue::{ImpairQueue, Queued, Rows, TreeMut};
 
 // The bytes of a slot, and of a copy.
 const SLOT_WIDTH: u32 = 2048;
@@ -65,19 +66,17 @@ fn send(store: &[u8], copy: Queued, sent: &mut [u8]) -> u64 {
 }
 
 // The same for an answer, and 0 where none left.
-fn send_answer(store: &[u8], answer: ReleaseAnswer, sent: &mut [u8]) -> u64 {
+fn send_answer(store: &[u8], answer: Result<Option<Queued>, Refusal>, sent: &mut [u8]) -> u64 {
     match answer {
-        ReleaseAnswer::Released(copy) => send(store, copy, sent),
-        ReleaseAnswer::NoneDue => 0,
-        ReleaseAnswer::Refused(_) => 0,
+        Ok(Some(copy)) => send(store, copy, sent),
+        _ => 0,
     }
 }
 
-fn due_or(answer: DueAnswer, now_ms: f64) -> f64 {
+fn due_or(answer: Result<Option<f64>, Refusal>, now_ms: f64) -> f64 {
     match answer {
-        DueAnswer::Due(due_ms) => due_ms,
-        DueAnswer::Empty => now_ms,
-        DueAnswer::Refused(_) => now_ms,
+        Ok(Some(due_ms)) => due_ms,
+        _ => now_ms,
     }
 }
 
@@ -112,15 +111,9 @@ impl Turns {
     // Where more than `held` are held, it is now the least due, and that copy leaves.
     pub(crate) fn leave(
         self,
-        win: &mut [u32],
+        tree: &mut TreeMut<'_>,
         free: &mut [u32],
-        dues: &mut [f64],
-        seqs: &mut [u64],
-        arrivals: &[f64],
-        routes: &[u64],
-        copy_ids: &[u32],
-        lengths: &[u32],
-        store: &[u8],
+        rows: Rows<'_>,
         sent: &mut [u8],
         held: usize,
     ) -> Turns {
@@ -128,18 +121,14 @@ impl Turns {
         if queue.len() <= held {
             return self;
         }
-        let due = queue.next_due(win, dues);
-        let now_ms = due_or(due, self.now_ms);
-        let released = queue.release(
-            win, free, dues, seqs, arrivals, routes, copy_ids, lengths, store, now_ms,
-        );
-        let answer = released.answer;
-        let after = released.queue;
+        let seen = tree.shared();
+        let now_ms = due_or(queue.next_due(seen.win, seen.dues), self.now_ms);
+        let (after, released) = queue.release(tree, free, rows, now_ms);
         Turns {
             queue: after,
             now_ms,
             draw: self.draw,
-            sum: add(self.sum, send_answer(store, answer, sent)),
+            sum: add(self.sum, send_answer(rows.store, released, sent)),
         }
     }
 }

@@ -16,15 +16,16 @@
 -- It rests on the contracts of `parse_config`, `create`, `arrive`, `release`, `payload`, `rebind`, `teardown` and `report`, each proved of its function: a run
 -- (Runs) is a list of calls for which these contracts hold, each handed the device and the tables that the last one left. An instant handed to `arrive` is a
 -- number of binary64, as every f64 is.
-use Rattle.std.specs.Prelude.{◌≡◌, ◌≢◌, true, List, ℕ, ◌<◌, ◌≤◌}
+use Rattle.std.specs.Prelude.{◌≡◌, ◌≢◌, true, List, ℕ, ◌<◌, ◌≤◌, Result, Ok, Err}
 use Rattle.std.proofs.Common.{sym, ap, ◌∙◌, subst}
 use Rattle.numbers.specs.Limits.{max_capacity}
 use Rattle.numbers.specs.Refusals.{refused_keeping}
+use Rattle.numbers.specs.declared.refusal.Refusal.{Refusal as Reason}
 use Rattle.judgement.specs.Settings.{is_settings_of}
 use Rattle.judgement.specs.Laws.Parsed.{parse_sound}
 use Rattle.options.specs.Parse.{parse_of}
+use Rattle.options.specs.declared.config.Config.{Config}
 use Rattle.options.specs.declared.config.DirectionConfig.{DirectionConfig}
-use Rattle.options.specs.declared.outcome.Parsed.{Parsed}
 use Rattle.queue.specs.Refusals.{slot_width}
 use Rattle.queue.specs.Tables.{Tables}
 use Rattle.queue_laws.specs.Laws.Keeps.{Long}
@@ -34,8 +35,7 @@ use Rattle.machine.specs.Machine.{Creation, host_creation, fresh_machine}
 use Rattle.machine.specs.Steps.{answers}
 use Rattle.machine.proofs.Theorems.{count, each_own, alike, each_report, only_three_along}
 use Rattle.device.specs.Creation.{create_of}
-use Rattle.device.specs.declared.answers.CreateAnswer.TheVariants as create
-use Rattle.device.specs.declared.answers.Created.{Created}
+use Rattle.device.specs.Parts.{Handed}
 use Rattle.device.specs.declared.device.Device.{Device}
 use Rattle.claim.specs.Creations.{refused_creation, CreationEnds}
 use Rattle.claim.specs.Runs.{Parses, Creates, Answered, Ran}
@@ -68,65 +68,65 @@ claim_of_matching o {v} {t} matching {cs} {rs} ran =
     three = rw same (only_three_along (fresh_machine o) cs)
 
 -- a creation is made of what the host named, or is refused by 29, 24 or 23
-pub creation_ends : {cfg : DirectionConfig} {seed salt cap : ℕ} {t : Tables} {r : Created} → Creates cfg seed salt cap t r → CreationEnds (host_creation cfg seed salt cap) r
+pub creation_ends : {cfg : DirectionConfig} {seed salt cap : ℕ} {t : Tables} {r : Handed (Unit {0})} → Creates cfg seed salt cap t r → CreationEnds (host_creation cfg seed salt cap) r
 creation_ends {cfg} {seed} {salt} {cap} {t} c = subst (CreationEnds (host_creation cfg seed salt cap)) (sym (creates_is c)) (create_ends cfg seed salt cap t)
 
 -- of any settings that a host names
-pub claim_of_settings : {cfg : DirectionConfig} {seed salt cap : ℕ} {t : Tables} {r : Created}
-    → Creates cfg seed salt cap t r → r.answer ≡ create.Created
-    → {cs : List Call} {rs : List Answer} (ran : Ran r.device t cs rs)
+pub claim_of_settings : {cfg : DirectionConfig} {seed salt cap : ℕ} {t : Tables} {r : Handed (Unit {0})}
+    → Creates cfg seed salt cap t r → r.1 ≡ Ok tt
+    → {cs : List Call} {rs : List Answer} (ran : Ran r.0 t cs rs)
     → Claimed (fresh_machine (host_creation cfg seed salt cap)) ran
 claim_of_settings {cfg} {seed} {salt} {cap} {t} {r} c made ran = claim_of_matching (host_creation cfg seed salt cap) matching ran
   where
-    matching : Matches r.device t (fresh_machine (host_creation cfg seed salt cap))
+    matching : Matches r.0 t (fresh_machine (host_creation cfg seed salt cap))
     matching =
-        subst (λ (x : Created). x.answer ≡ create.Created → Matches x.device t (fresh_machine (host_creation cfg seed salt cap))) (sym (creates_is c))
+        subst (λ (x : Handed (Unit {0})). x.1 ≡ Ok tt → Matches x.0 t (fresh_machine (host_creation cfg seed salt cap))) (sym (creates_is c))
         (create_matches cfg seed salt cap t) made
 
 -- the device of a refused creation too, over memory that is long enough for its capacity: that of the default settings, the generator's seed 0 and capacity 1
-pub refused_creation_agrees : {cfg : DirectionConfig} {seed salt cap : ℕ} {t : Tables} {r : Created}
-    → Creates cfg seed salt cap t r → (k : ℕ) → r.answer ≡ create.Refused k
+pub refused_creation_agrees : {cfg : DirectionConfig} {seed salt cap : ℕ} {t : Tables} {r : Handed (Unit {0})}
+    → Creates cfg seed salt cap t r → (e : Reason) → r.1 ≡ Err e
     → {u : Tables} → Long slot_width refused_creation.capacity u
-    → {cs : List Call} {rs : List Answer} (ran : Ran r.device u cs rs)
+    → {cs : List Call} {rs : List Answer} (ran : Ran r.0 u cs rs)
     → Claimed (fresh_machine refused_creation) ran
-refused_creation_agrees {r = r} c k says {u} long ran = claim_of_matching refused_creation matching ran
+refused_creation_agrees {r = r} c e says {u} long ran = claim_of_matching refused_creation matching ran
   where
-    matching : Matches r.device u (fresh_machine refused_creation)
-    matching = subst (λ (v : Device). Matches v u (fresh_machine refused_creation)) (sym (refused_device _ r k (creation_ends c) says)) (refused_matches u long)
+    matching : Matches r.0 u (fresh_machine refused_creation)
+    matching = subst (λ (v : Device). Matches v u (fresh_machine refused_creation)) (sym (refused_device _ r e (creation_ends c) says)) (refused_matches u long)
 
 -- of the settings and the seed of an option text, as `parse_config` returned them
-pub claim : {text : List ℕ} {p : Parsed} → Parses text p
-    → (d : Direction) {salt cap : ℕ} {t : Tables} {r : Created}
-    → Creates (settings_of d p.config) p.config.seed salt cap t r → r.answer ≡ create.Created
-    → {cs : List Call} {rs : List Answer} (ran : Ran r.device t cs rs)
+pub claim : {text : List ℕ} {p : Config × Result (Unit {0}) Reason} → Parses text p
+    → (d : Direction) {salt cap : ℕ} {t : Tables} {r : Handed (Unit {0})}
+    → Creates (settings_of d p.0) p.0.seed salt cap t r → r.1 ≡ Ok tt
+    → {cs : List Call} {rs : List Answer} (ran : Ran r.0 t cs rs)
     → Claimed (machine_of text d salt cap) ran
 claim parses d {salt} {cap} c made ran =
-    subst (λ (p : Parsed). Claimed (fresh_machine (host_creation (settings_of d p.config) p.config.seed salt cap)) ran) (parses_is parses) (claim_of_settings c made ran)
+    subst (λ (p : Config × Result (Unit {0}) Reason). Claimed (fresh_machine (host_creation (settings_of d p.0) p.0.seed salt cap)) ran) (parses_is parses) (claim_of_settings c made ran)
 
 -- two runs of one text, direction, salt and capacity, each over its own memory: calls that are alike in kinds, order, times and lengths have answers that are
 -- alike but for the bytes and routes handed out
-pub two_runs : {text : List ℕ} {p : Parsed} → Parses text p
-    → (d : Direction) {salt cap : ℕ} {t u : Tables} {r q : Created}
-    → Creates (settings_of d p.config) p.config.seed salt cap t r → r.answer ≡ create.Created
-    → Creates (settings_of d p.config) p.config.seed salt cap u q → q.answer ≡ create.Created
-    → {cs ds : List Call} {rs qs : List Answer} → Ran r.device t cs rs → Ran q.device u ds qs
+pub two_runs : {text : List ℕ} {p : Config × Result (Unit {0}) Reason} → Parses text p
+    → (d : Direction) {salt cap : ℕ} {t u : Tables} {r q : Handed (Unit {0})}
+    → Creates (settings_of d p.0) p.0.seed salt cap t r → r.1 ≡ Ok tt
+    → Creates (settings_of d p.0) p.0.seed salt cap u q → q.1 ≡ Ok tt
+    → {cs ds : List Call} {rs qs : List Answer} → Ran r.0 t cs rs → Ran q.0 u ds qs
     → bare_calls cs ≡ bare_calls ds → bare_answers rs ≡ bare_answers qs
 two_runs parses d c made c' made' {ds = ds} ran ran' e =
     (claim parses d c made ran).alike_answers ds e
     ∙ ap bare_answers (sym (claim parses d c' made' ran').same)
 
 -- whatever the text, a creation with a capacity from 1 to 1,048,576 and memory that is long enough for it is not refused
-pub text_creates : {text : List ℕ} {p : Parsed} → Parses text p
-    → (d : Direction) {salt cap : ℕ} {t : Tables} {r : Created}
+pub text_creates : {text : List ℕ} {p : Config × Result (Unit {0}) Reason} → Parses text p
+    → (d : Direction) {salt cap : ℕ} {t : Tables} {r : Handed (Unit {0})}
     → 0 < cap → cap ≤ max_capacity → Long slot_width cap t
-    → Creates (settings_of d p.config) p.config.seed salt cap t r → r.answer ≡ create.Created
+    → Creates (settings_of d p.0) p.0.seed salt cap t r → r.1 ≡ Ok tt
 text_creates {text} {p} parses d {salt} {cap} {t} low high long c =
-    ap (λ (x : Created). x.answer) (creates_is c)
-    ∙ create_made (settings_of d p.config) p.config.seed salt cap t (settings_judged d) low high long
+    ap (λ (x : Handed (Unit {0})). x.1) (creates_is c)
+    ∙ create_made (settings_of d p.0) p.0.seed salt cap t (settings_judged d) low high long
   where
-    settings_judged : (d : Direction) → is_settings_of (settings_of d p.config) ≡ true
-    settings_judged c2s = subst (λ (x : Parsed). is_settings_of x.config.c2s ≡ true) (sym (parses_is parses)) (parse_sound text).c2s_judged
-    settings_judged s2c = subst (λ (x : Parsed). is_settings_of x.config.s2c ≡ true) (sym (parses_is parses)) (parse_sound text).s2c_judged
+    settings_judged : (d : Direction) → is_settings_of (settings_of d p.0) ≡ true
+    settings_judged c2s = subst (λ (x : Config × Result (Unit {0}) Reason). is_settings_of x.0.c2s ≡ true) (sym (parses_is parses)) (parse_sound text).c2s_judged
+    settings_judged s2c = subst (λ (x : Config × Result (Unit {0}) Reason). is_settings_of x.0.s2c ≡ true) (sym (parses_is parses)) (parse_sound text).s2c_judged
 
 -- ---- demand 1, of any device and any memory
 
@@ -136,10 +136,10 @@ refused_changes_nothing = answered_stays
 
 -- ---- the claim speaks of something: a call is answered, whatever it is handed
 
-pub parse_exists : (text : List ℕ) → (p : Parsed) × Parses text p
+pub parse_exists : (text : List ℕ) → (p : Config × Result (Unit {0}) Reason) × Parses text p
 parse_exists text = (parse_of text, parses_so text)
 
-pub creation_exists : (cfg : DirectionConfig) (seed salt cap : ℕ) (t : Tables) → (r : Created) × Creates cfg seed salt cap t r
+pub creation_exists : (cfg : DirectionConfig) (seed salt cap : ℕ) (t : Tables) → (r : Handed (Unit {0})) × Creates cfg seed salt cap t r
 creation_exists cfg seed salt cap t = (create_of slot_width cfg seed salt cap t, creates_so cfg seed salt cap t)
 
 -- every list of calls has a run

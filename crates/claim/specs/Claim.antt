@@ -34,4 +34,4 @@ settings_of s2c c = c.s2c
 
 -- the machine of a text's settings and seed, for a direction, a salt and a capacity
 abbrev pub machine_of : List ℕ → Direction → ℕ → ℕ → Machine
-machine_of text d salt cap = fresh_machine (host_creation (settings_of d (parse_of text).config) (parse_of text).config.seed salt cap)
+machine_of text d salt cap = fresh_machine (host_creation (settings_of d (parse_of text).0) (parse_of text).0.seed salt cap)

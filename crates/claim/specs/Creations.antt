@@ -1,13 +1,12 @@
 -- What a creation ends in: the device of what the host named, or, where it is refused, the device that document 01 gives then ("Who can cause a refusal").
-use Rattle.std.specs.Prelude.{◌≡◌, ◌⊎◌, ℕ}
-use Rattle.numbers.specs.Refusals.{refused_memory, refused_capacity, refused_settings}
+use Rattle.std.specs.Prelude.{◌≡◌, ◌⊎◌, Result, Ok, Err}
+use Rattle.numbers.specs.declared.refusal.Refusal.{Refusal}
+use Rattle.numbers.specs.declared.refusal.Refusal.TheVariants as refusal
 use Rattle.options.specs.Config.{default_direction}
 use Rattle.engine.specs.Engine.{fresh_of}
 use Rattle.queue.specs.Calls.{fresh}
 use Rattle.machine.specs.Machine.{Creation}
 use Rattle.device.specs.Creation.{fresh_device}
-use Rattle.device.specs.declared.answers.CreateAnswer.TheVariants as create
-use Rattle.device.specs.declared.answers.Created.{Created}
 use Rattle.device.specs.declared.device.Device.{Device}
 
 -- the device in which nothing has happened
@@ -18,11 +17,10 @@ new_device o = fresh_device (fresh_of o.settings o.generator_seed) (fresh o.capa
 abbrev pub refused_creation : Creation
 refused_creation = record { settings = default_direction; generator_seed = 0; capacity = 1 }
 
-abbrev pub CreationRefusal : ℕ → Type 0
-CreationRefusal k = (k ≡ refused_settings) ⊎ (k ≡ refused_capacity) ⊎ (k ≡ refused_memory)
+-- 29, 24 or 23
+abbrev pub CreationRefusal : Refusal → Type 0
+CreationRefusal e = (e ≡ refusal.Settings) ⊎ (e ≡ refusal.Capacity) ⊎ (e ≡ refusal.Memory)
 
 -- a creation of what the host named is made, or refused by 29, 24 or 23
-abbrev pub CreationEnds : Creation → Created → Type 0
-CreationEnds o r =
-    (r ≡ record { device = new_device o; answer = create.Created })
-    ⊎ ((k : ℕ) × CreationRefusal k × (r ≡ record { device = new_device refused_creation; answer = create.Refused k }))
+abbrev pub CreationEnds : Creation → Device × Result (Unit {0}) Refusal → Type 0
+CreationEnds o r = (r ≡ (new_device o, Ok tt)) ⊎ ((e : Refusal) × CreationRefusal e × (r ≡ (new_device refused_creation, Err e)))

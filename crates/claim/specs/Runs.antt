@@ -1,27 +1,24 @@
 -- Runs of the program: each step is a call of a function of crates/device, answered and its tables left as the function's own contract says (`Learnt`), and begins
 -- with what the last one left.
-use Rattle.std.specs.Prelude.{◌≡◌, true, false, List, [], ◌∷◌, ℕ, T, Float}
+use Rattle.std.specs.Prelude.{◌≡◌, Bool, List, [], ◌∷◌, ℕ, T, Float, Option, None, Some, Result, Ok, Err}
 use Rattle.std.specs.Float.{binary64}
 use Rattle.std.specs.Float.Ieee.{fits}
 use contract.Lifetimes
 use borrow.Fn.World
 use borrow.Fn.Kinds as Kinds'
 use denote.Triple.Clauses
+use Rattle.numbers.specs.Refusals.{number_of}
+use Rattle.numbers.specs.declared.refusal.Refusal.{Refusal}
+use Rattle.options.specs.declared.config.Config.{Config}
 use Rattle.options.specs.declared.config.DirectionConfig.{DirectionConfig}
-use Rattle.options.specs.declared.outcome.Parsed.{Parsed}
 use Rattle.held.specs.Copies.{copy}
+use Rattle.queue.specs.Lent.{entry_tables, exit_tables, seen_tables}
 use Rattle.queue.specs.Tables.{Tables}
 use Rattle.queue.specs.declared.answers.Queued.{Queued}
-use Rattle.queue.specs.declared.answers.ReleaseAnswer.{ReleaseAnswer}
-use Rattle.queue.specs.declared.answers.ReleaseAnswer.TheVariants as left
-use Rattle.queue_laws.specs.Lent.{lent_tables, left_by_entry, left_by_exit}
 use Rattle.machine.specs.Calls.{Call, arrive as arrive_call, release as release_call, rebind as rebind_call, teardown as teardown_call, report as report_call, Answer, released, none_due, refused}
-use Rattle.device.specs.declared.answers.Arrived.{Arrived}
-use Rattle.device.specs.declared.answers.Created.{Created}
-use Rattle.device.specs.declared.answers.Rebound.{Rebound}
-use Rattle.device.specs.declared.answers.Released.{Released}
-use Rattle.device.specs.declared.answers.Reported.{Reported}
-use Rattle.device.specs.declared.answers.TornDown.{TornDown}
+use Rattle.device.specs.Parts.{Handed}
+use Rattle.device.specs.declared.arrive.Arrived.{Arrived}
+use Rattle.device.specs.declared.report.Report.{Report}
 use Rattle.device.specs.declared.device.Device.{Device}
 use Rattle.device.specs.contracts.device.Device.create as create_fn
 use Rattle.device.proofs.device.Device.create.Reads as create
@@ -52,54 +49,56 @@ use Rattle.claim.specs.Replies.{said_of_arrive, said_of_rebind, said_of_teardown
 -- ---- calls: `Learnt` is what the function's contract ensures of its arguments, its result and the tables at exit
 
 -- a call of `parse_config` on a text returned r
-pub data Parses (text : List ℕ) : Parsed → Type 1 where
+pub data Parses (text : List ℕ) : Config × Result (Unit {0}) Refusal → Type 1 where
   called : (κs : Lifetimes.Lfts 1) (a : World.ArgsD parse_fn.signature κs) (r : World.ResD parse_fn.signature κs) (s : Clauses.AtExit (Kinds'.ended_of 1 parse_kinds.ps parse_kinds.r) κs)
       → a.0.now ≡ text
       → parse.Learnt κs a r s
       → Parses text r
 
 -- a call of `create` over the tables t returned r
-pub data Creates (cfg : DirectionConfig) (seed salt cap : ℕ) (t : Tables) : Created → Type 1 where
-  called : (κs : Lifetimes.Lfts 9) (a : World.ArgsD create_fn.signature κs) (r : World.ResD create_fn.signature κs) (s : Clauses.AtExit (Kinds'.ended_of 9 create_kinds.ps create_kinds.r) κs)
-      → a.0 ≡ cfg → a.1.0 ≡ seed → a.1.1.0 ≡ salt → a.1.1.1.0 ≡ cap → lent_tables false false false a.1.1.1.1 ≡ t
+pub data Creates (cfg : DirectionConfig) (seed salt cap : ℕ) (t : Tables) : Handed (Unit {0}) → Type 1 where
+  called : (κs : Lifetimes.Lfts 3) (a : World.ArgsD create_fn.signature κs) (r : World.ResD create_fn.signature κs) (s : Clauses.AtExit (Kinds'.ended_of 3 create_kinds.ps create_kinds.r) κs)
+      → a.0 ≡ cfg → a.1.0 ≡ seed → a.1.1.0 ≡ salt → a.1.1.1.0 ≡ cap
+      → seen_tables a.1.1.1.1.0 a.1.1.1.1.1.0.now a.1.1.1.1.1.1.0 ≡ t
       → create.Learnt κs a r s
       → Creates cfg seed salt cap t r
 
--- a call of `arrive` on the device v and the tables t returned r and left tables; the instant is a number of binary64, as every f64 is
-pub data Arrives (v : Device) (t : Tables) (instant : Float) (bytes : List ℕ) (route : ℕ) : Arrived → Tables → Type 1 where
-  called : (κs : Lifetimes.Lfts 10) (a : World.ArgsD arrive_fn.signature κs) (r : World.ResD arrive_fn.signature κs) (s : Clauses.AtExit (Kinds'.ended_of 10 arrive_kinds.ps arrive_kinds.r) κs)
+-- a call of `arrive` on the device v and the tables t returned r and left tables; the free slots are only read, and the instant is a number of binary64, as every
+-- f64 is
+pub data Arrives (v : Device) (t : Tables) (instant : Float) (bytes : List ℕ) (route : ℕ) : Handed Arrived → Tables → Type 1 where
+  called : (κs : Lifetimes.Lfts 6) (a : World.ArgsD arrive_fn.signature κs) (r : World.ResD arrive_fn.signature κs) (s : Clauses.AtExit (Kinds'.ended_of 6 arrive_kinds.ps arrive_kinds.r) κs)
       → T (fits binary64 instant)
-      → a.0 ≡ v → lent_tables true false true a.1 ≡ t
-      → a.1.1.1.1.1.1.1.1.1.1.0 ≡ instant
-      → a.1.1.1.1.1.1.1.1.1.1.1.0.now ≡ bytes
-      → a.1.1.1.1.1.1.1.1.1.1.1.1.0 ≡ route
+      → a.0 ≡ v → entry_tables a.1.0.now a.1.1.0.now a.1.1.1.0.now ≡ t
+      → a.1.1.1.1.0 ≡ instant
+      → a.1.1.1.1.1.0.now ≡ bytes
+      → a.1.1.1.1.1.1.0 ≡ route
       → arrive.Learnt κs a r s
-      → Arrives v t instant bytes route r (left_by_entry (lent_tables true false true a.1) (lent_tables true false true s.1))
+      → Arrives v t instant bytes route r (entry_tables s.1.0.now a.1.1.0.now s.1.1.1.0.now)
 
--- a call of `release` at an instant
-pub data Releases (v : Device) (t : Tables) (instant : Float) : Released → Tables → Type 1 where
-  called : (κs : Lifetimes.Lfts 9) (a : World.ArgsD release_fn.signature κs) (r : World.ResD release_fn.signature κs) (s : Clauses.AtExit (Kinds'.ended_of 9 release_kinds.ps release_kinds.r) κs)
-      → a.0 ≡ v → lent_tables true true false a.1 ≡ t
-      → a.1.1.1.1.1.1.1.1.1.1.0 ≡ instant
+-- a call of `release` at an instant; the copies are only read
+pub data Releases (v : Device) (t : Tables) (instant : Float) : Handed (Option Queued) → Tables → Type 1 where
+  called : (κs : Lifetimes.Lfts 4) (a : World.ArgsD release_fn.signature κs) (r : World.ResD release_fn.signature κs) (s : Clauses.AtExit (Kinds'.ended_of 4 release_kinds.ps release_kinds.r) κs)
+      → a.0 ≡ v → exit_tables a.1.0.now a.1.1.0.now a.1.1.1.0 ≡ t
+      → a.1.1.1.1.0 ≡ instant
       → release.Learnt κs a r s
-      → Releases v t instant r (left_by_exit (lent_tables true true false a.1) (lent_tables true true false s.1))
+      → Releases v t instant r (exit_tables s.1.0.now s.1.1.0.now a.1.1.1.0)
 
--- calls of `rebind`, `teardown` and `report`, which are lent no table
-pub data Rebinds (v : Device) (instant : Float) : Rebound → Type 1 where
+-- calls of `rebind`, `teardown` and `report`, which are lent no table; a report is lent the device
+pub data Rebinds (v : Device) (instant : Float) : Handed Bool → Type 1 where
   called : (κs : Lifetimes.Lfts 0) (a : World.ArgsD rebind_fn.signature κs) (r : World.ResD rebind_fn.signature κs) (s : Clauses.AtExit (Kinds'.ended_of 0 rebind_kinds.ps rebind_kinds.r) κs)
       → a.0 ≡ v → a.1.0 ≡ instant
       → rebind.Learnt κs a r s
       → Rebinds v instant r
 
-pub data TearsDown (v : Device) : TornDown → Type 1 where
+pub data TearsDown (v : Device) : Handed ℕ → Type 1 where
   called : (κs : Lifetimes.Lfts 0) (a : World.ArgsD teardown_fn.signature κs) (r : World.ResD teardown_fn.signature κs) (s : Clauses.AtExit (Kinds'.ended_of 0 teardown_kinds.ps teardown_kinds.r) κs)
       → a.0 ≡ v
       → teardown.Learnt κs a r s
       → TearsDown v r
 
-pub data Reports (v : Device) : Reported → Type 1 where
-  called : (κs : Lifetimes.Lfts 0) (a : World.ArgsD report_fn.signature κs) (r : World.ResD report_fn.signature κs) (s : Clauses.AtExit (Kinds'.ended_of 0 report_kinds.ps report_kinds.r) κs)
-      → a.0 ≡ v
+pub data Reports (v : Device) : Result Report Refusal → Type 1 where
+  called : (κs : Lifetimes.Lfts 1) (a : World.ArgsD report_fn.signature κs) (r : World.ResD report_fn.signature κs) (s : Clauses.AtExit (Kinds'.ended_of 1 report_kinds.ps report_kinds.r) κs)
+      → a.0.now ≡ v
       → report.Learnt κs a r s
       → Reports v r
 
@@ -111,24 +110,24 @@ pub data Reads (store : List ℕ) (slot len : ℕ) : List ℕ → Type 1 where
       → Reads store slot len r.now
 
 -- what an answer of `release` says, with the bytes that `payload` reads in the store that is left
-pub data Says (store : List ℕ) : ReleaseAnswer → Answer → Type 1 where
+pub data Says (store : List ℕ) : Result (Option Queued) Refusal → Answer → Type 1 where
   hands_out : {c : Queued} {bytes : List ℕ} → Reads store c.slot c.length bytes
-      → Says store (left.Released c) (released (copy c.due_ms c.seq c.arrival_ms c.route c.copy_id c.length bytes))
-  none : Says store left.NoneDue none_due
-  refuses : {k : ℕ} → Says store (left.Refused k) (refused k)
+      → Says store (Ok (Some c)) (released (copy c.due_ms c.seq c.arrival_ms c.route c.copy_id c.length bytes))
+  none : Says store (Ok None) none_due
+  refuses : {e : Refusal} → Says store (Err e) (refused (number_of e))
 
 -- ---- a call of any kind, and a run
 
 -- the call on the device v and the tables t was answered so, and left the device v' and the tables t'
 pub data Answered (v : Device) (t : Tables) : Call → Answer → Device → Tables → Type 1 where
-  arrives : {t' : Tables} {instant : Float} {bytes : List ℕ} {route : ℕ} {r : Arrived} → Arrives v t instant bytes route r t'
-      → Answered v t (arrive_call instant bytes route) (said_of_arrive r.answer) r.device t'
-  releases : {t' : Tables} {instant : Float} {r : Released} {reply : Answer} → Releases v t instant r t' → Says t'.store r.answer reply
-      → Answered v t (release_call instant) reply r.device t'
-  rebinds : {instant : Float} {r : Rebound} → Rebinds v instant r → Answered v t (rebind_call instant) (said_of_rebind r.answer) r.device t
-  tears_down : {r : TornDown} → TearsDown v r → Answered v t teardown_call (said_of_teardown r.answer) r.device t
+  arrives : {t' : Tables} {instant : Float} {bytes : List ℕ} {route : ℕ} {r : Handed Arrived} → Arrives v t instant bytes route r t'
+      → Answered v t (arrive_call instant bytes route) (said_of_arrive r.1) r.0 t'
+  releases : {t' : Tables} {instant : Float} {r : Handed (Option Queued)} {reply : Answer} → Releases v t instant r t' → Says t'.store r.1 reply
+      → Answered v t (release_call instant) reply r.0 t'
+  rebinds : {instant : Float} {r : Handed Bool} → Rebinds v instant r → Answered v t (rebind_call instant) (said_of_rebind r.1) r.0 t
+  tears_down : {r : Handed ℕ} → TearsDown v r → Answered v t teardown_call (said_of_teardown r.1) r.0 t
   -- a report hands back no device: the host goes on with the one that it has
-  reports : {r : Reported} → Reports v r → Answered v t report_call (said_of_report r) v t
+  reports : {r : Result Report Refusal} → Reports v r → Answered v t report_call (said_of_report r) v t
 
 -- a run over a list of calls, each on what the last one left, with its answers
 pub data Ran : Device → Tables → List Call → List Answer → Type 1 where

@@ -1,32 +1,20 @@
--- The parts of the engine that an arrival moves, apart from the rest of the device.
-use Rattle.engine.specs.declared.answers.Arrived.{Arrived as Decided}
+-- What the calls hand back, and a device with one of its parts replaced.
+use Rattle.std.specs.Prelude.{Result}
+use Rattle.numbers.specs.declared.refusal.Refusal.{Refusal}
+use Rattle.accounts.specs.declared.accountant.SendAccountant.{SendAccountant}
 use Rattle.engine.specs.declared.engine.ArrivalEngine.{ArrivalEngine}
-use Rattle.device.specs.declared.arrive.Moving.{Moving}
+use Rattle.queue.specs.declared.queue.ImpairQueue.{ImpairQueue}
+use Rattle.device.specs.declared.device.Device.{Device}
 
-abbrev pub moving_of : Decided → Moving
-moving_of d =
-    record {
-      rng = d.engine.rng;
-      ge_bad = d.engine.ge_bad;
-      tokens = d.engine.tokens;
-      last_refill_ms = d.engine.last_refill_ms;
-      stats = d.engine.stats;
-      decision = d.decision;
-    }
+-- the device that a call hands back, with its answer
+abbrev pub Handed : Type 0 → Type 0
+Handed A = Device × Result A Refusal
 
--- the engine with these parts
-abbrev pub moved_of : ArrivalEngine → Moving → ArrivalEngine
-moved_of e m =
-    record {
-      cfg = e.cfg;
-      rng = m.rng;
-      ge_bad = m.ge_bad;
-      tokens = m.tokens;
-      last_refill_ms = m.last_refill_ms;
-      next_rebind_ms = e.next_rebind_ms;
-      rebinds_done = e.rebinds_done;
-      stats = m.stats;
-    }
+abbrev pub with_engine : Device → ArrivalEngine → Device
+with_engine v e = record { engine = e; queue = v.queue; accounts = v.accounts; torn = v.torn }
 
-abbrev pub decided_with : ArrivalEngine → Moving → Decided
-decided_with e m = record { engine = moved_of e m; decision = m.decision }
+abbrev pub with_queue : Device → ImpairQueue → Device
+with_queue v q = record { engine = v.engine; queue = q; accounts = v.accounts; torn = v.torn }
+
+abbrev pub with_accounts : Device → SendAccountant → Device
+with_accounts v a = record { engine = v.engine; queue = v.queue; accounts = a; torn = v.torn }

@@ -1,15 +1,16 @@
 -- Which refusal meets a call, in document 01's order (section "Who can cause a refusal"). 29 is judged at creation; what 27 or 29 would refuse later is altered state and gives 26;
 -- 28 is counted instead. 26 is found where the parts are used, after these.
-use Rattle.std.specs.Prelude.{Bool, List, [], ◌∷◌, ℕ}
-use Rattle.numbers.specs.Checks.{Check, check, first_failing}
-use Rattle.numbers.specs.Refusals.{refused_memory, refused_instant, refused_length, refused_counter}
+use Rattle.std.specs.Prelude.{Bool, List, [], ◌∷◌, Result}
+use Rattle.numbers.specs.Checks.{Test, test, first_refusal}
+use Rattle.numbers.specs.declared.refusal.Refusal.{Refusal}
+use Rattle.numbers.specs.declared.refusal.Refusal.TheVariants as refusal
 use Rattle.machine.specs.Machine.{in_range}
 use Rattle.device.specs.declared.device.Device.{Device}
 
 -- the tests of a call, each passed or not
-abbrev pub device_checks : Bool → Bool → Bool → Bool → List Check
-device_checks memory instant short counters = check memory refused_memory ∷ check instant refused_instant ∷ check short refused_length ∷ check counters refused_counter ∷ []
+abbrev pub device_checks : Bool → Bool → Bool → Bool → List Test
+device_checks memory instant short counters = test memory refusal.Memory ∷ test instant refusal.Instant ∷ test short refusal.Length ∷ test counters refusal.Counter ∷ []
 
 -- what meets a call whose memory, instant and length pass or not; 25 is judged in every call
-unfoldable pub call_refusal : Device → Bool → Bool → Bool → ℕ
-call_refusal d memory instant short = first_failing (device_checks memory instant short (in_range d.engine d.accounts d.torn d.queue.next_seq))
+unfoldable pub call_refusal : Device → Bool → Bool → Bool → Result (Unit {0}) Refusal
+call_refusal d memory instant short = first_refusal (device_checks memory instant short (in_range d.engine d.accounts d.torn d.queue.next_seq))

@@ -1,7 +1,6 @@
 // The device: one direction of an impaired line, with its engine, its queue and its accounts.
 #![tactic(auto)]
 
-mod answers;
 mod arrive;
 mod creation;
 mod device;
@@ -11,9 +10,7 @@ mod release;
 mod report;
 mod teardown;
 
-pub use answers::{
-    ArriveAnswer, Arrived, CreateAnswer, Created, RebindAnswer, Rebound, Released, Reported,
-    TeardownAnswer, TornDown,
-};
+pub use arrive::Arrived;
 pub use device::Device;
 pub use release::payload;
+pub use report::Report;

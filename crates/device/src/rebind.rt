@@ -1,42 +1,30 @@
 // When the address is to change.
 ghost use Rattle.std.specs.Prelude.{◌≡◌};
-ghost use Rattle.device.specs.Others.{not_rebound, rebind_of};
+ghost use Rattle.device.specs.Others.{rebind_of};
 
-use crate::answers::{RebindAnswer, Rebound};
 use crate::device::Device;
-use engine::BoolAnswer;
-use numbers::REFUSED_KEEPING;
-
-// A rebind that is refused.
-fn not_rebound(device: Device, number: u32) -> Rebound
-    ensures { result ≡ not_rebound device number }
-{
-    Rebound {
-        device,
-        answer: RebindAnswer::Refused(number),
-    }
-}
+use numbers::Refusal;
 
 impl Device {
+    // A rebind in place. Settings that the engine refuses were altered.
+    #[tactic(auto, unfolding(crate::specs::Others::rebind_of, crate::specs::Others::rebound_by))]
+    fn rebind_in_place(&mut self, now_ms: f64) -> Result<bool, Refusal>
+        ensures { (self.new, result) ≡ rebind_of self.old now_ms }
+    {
+        self.judged(true, numbers::is_instant(now_ms), true)?;
+        let (after, rebound) = self.engine.should_rebind_now(now_ms);
+        self.engine = after;
+        match rebound {
+            Ok(yes) => Ok(yes),
+            Err(_) => Err(Refusal::Keeping),
+        }
+    }
+
     // Whether the outbound socket is to be changed now, or a refusal by 21, 25 or 26.
-    pub fn rebind(mut self, now_ms: f64) -> Rebound
+    pub fn rebind(mut self, now_ms: f64) -> (Device, Result<bool, Refusal>)
         ensures { result ≡ rebind_of self now_ms }
     {
-        let number = self.call_refusal(true, numbers::is_instant(now_ms), true);
-        if number != 0 {
-            return not_rebound(self, number);
-        }
-        let engine = self.engine;
-        let rebound = engine.should_rebind_now(now_ms);
-        let after = rebound.engine;
-        let answer = rebound.answer;
-        self.engine = after;
-        match answer {
-            BoolAnswer::Said(yes) => Rebound {
-                device: self,
-                answer: RebindAnswer::Said(yes),
-            },
-            BoolAnswer::Refused(_) => not_rebound(self, REFUSED_KEEPING),
-        }
+        let answer = self.rebind_in_place(now_ms);
+        (self, answer)
     }
 }

@@ -1,75 +1,15 @@
 // How the least copy leaves.
 ghost use Rattle.std.specs.Prelude.{◌≡◌};
-ghost use Rattle.queue.specs.Refusals.{slot_width};
-ghost use Rattle.queue.specs.Tables.{tables, after};
+ghost use Rattle.tournament.specs.Trees.{SameTables};
 ghost use Rattle.queue.specs.Calls.{payload_of};
-ghost use Rattle.device.specs.Release.{sending, send_answer_of, accounted_of, sending_of, release_of};
+ghost use Rattle.queue.specs.Lent.{exit_tables};
+ghost use Rattle.queue.specs.Refusals.{slot_width};
+ghost use Rattle.queue.specs.Tables.{after};
+ghost use Rattle.device.specs.Release.{accounted_of, sending_by, release_of};
 
-use crate::answers::Released;
 use crate::device::Device;
-use accounts::{Outcome, SendAccountant};
-use numbers::REFUSED_KEEPING;
-use queue::{ImpairQueue, Queued, ReleaseAnswer};
-
-// What a release leaves of the queue and the accounts, and its answer. The settings stay out, so that their lists are not copied with each release.
-#[derive(Clone, Copy)]
-pub(crate) struct Sending {
-    pub queue: ImpairQueue,
-    pub accounts: SendAccountant,
-    pub answer: ReleaseAnswer,
-}
-
-// The answer once the accounts have answered; a length that 22 refuses was altered.
-fn send_answer(outcome: Outcome, copy: Queued) -> ReleaseAnswer
-    ensures { result ≡ send_answer_of outcome copy }
-{
-    match outcome {
-        Outcome::Done => ReleaseAnswer::Released(copy),
-        Outcome::Refused(_) => ReleaseAnswer::Refused(REFUSED_KEEPING),
-    }
-}
-
-// The copy is accounted with its latency.
-fn accounted(queue: ImpairQueue, accounts: SendAccountant, copy: Queued, now_ms: f64) -> Sending
-    ensures { result ≡ accounted_of queue accounts copy now_ms }
-{
-    let sent = accounts.on_send(copy.length, now_ms - copy.arrival_ms);
-    let after = sent.accountant;
-    let outcome = sent.answer;
-    Sending {
-        queue,
-        accounts: after,
-        answer: send_answer(outcome, copy),
-    }
-}
-
-// A release that hands out no copy.
-fn not_sent(queue: ImpairQueue, accounts: SendAccountant, answer: ReleaseAnswer) -> Sending
-    ensures { result ≡ sending queue accounts answer }
-{
-    Sending {
-        queue,
-        accounts,
-        answer,
-    }
-}
-
-// What is left after the queue has answered.
-fn sending_of(released: queue::Released, accounts: SendAccountant, now_ms: f64) -> Sending
-    ensures { result ≡ sending_of released accounts now_ms }
-{
-    let queue = released.queue;
-    let answer = released.answer;
-    match answer {
-        ReleaseAnswer::Released(copy) => accounted(queue, accounts, copy, now_ms),
-        ReleaseAnswer::NoneDue => not_sent(queue, accounts, ReleaseAnswer::NoneDue),
-        ReleaseAnswer::Refused(_) => not_sent(
-            queue,
-            accounts,
-            ReleaseAnswer::Refused(REFUSED_KEEPING),
-        ),
-    }
-}
+use numbers::Refusal;
+use queue::{Queued, Rows, Sizes, TreeMut};
 
 // The first `length` bytes of a slot of the lent store: a released copy's bytes. None where slot or length is out of range.
 pub fn payload(store: &[u8], slot: u32, length: usize) -> &[u8]
@@ -79,54 +19,66 @@ pub fn payload(store: &[u8], slot: u32, length: usize) -> &[u8]
 }
 
 impl Device {
+    // The copy is accounted with its latency; a length that 22 refuses was altered.
+    #[tactic(auto, unfolding(crate::specs::Release::accounted_of, crate::specs::Release::send_answer_of))]
+    fn account(&mut self, copy: Queued, now_ms: f64) -> Result<Option<Queued>, Refusal>
+        ensures { (self.new, result) ≡ accounted_of self.old copy now_ms }
+    {
+        let (accounts, sent) = self.accounts.on_send(copy.length, now_ms - copy.arrival_ms);
+        self.accounts = accounts;
+        match sent {
+            Ok(()) => Ok(Some(copy)),
+            Err(_) => Err(Refusal::Keeping),
+        }
+    }
+
+    // What comes once the queue has answered; a queue that refuses was altered.
+    #[tactic(auto, unfolding(crate::specs::Release::sending_by))]
+    fn send(
+        &mut self,
+        released: Result<Option<Queued>, Refusal>,
+        now_ms: f64,
+    ) -> Result<Option<Queued>, Refusal>
+        ensures { (self.new, result) ≡ sending_by released self.old now_ms }
+    {
+        match released {
+            Ok(Some(copy)) => self.account(copy, now_ms),
+            Ok(None) => Ok(None),
+            Err(_) => Err(Refusal::Keeping),
+        }
+    }
+
+    // A release in place, so that the settings are not copied.
+    #[tactic(auto, unfolding(crate::specs::Release::release_of, queue::specs::Refusals::memory_of))]
+    fn release_in_place(
+        &mut self,
+        tree: &mut TreeMut<'_>,
+        free: &mut [u32],
+        rows: Rows<'_>,
+        now_ms: f64,
+    ) -> Result<Option<Queued>, Refusal>
+        ensures released { after (self.new, result) (exit_tables tree.new free.new rows.entry) ≡ release_of slot_width self.old (exit_tables tree.old free.old rows.entry) now_ms }
+        ensures same { SameTables tree.old tree.new }
+    {
+        let memory = self.queue.has_memory(Sizes::of(tree.shared(), free, rows));
+        self.judged(memory, numbers::is_instant(now_ms), true)?;
+        let (queue, released) = self.queue.release(tree, free, rows, now_ms);
+        self.queue = queue;
+        self.send(released, now_ms)
+    }
+
     // The least copy with a due of at most `now_ms` leaves and is accounted; none due, or a refusal by 23, 21, 25 or 26.
     pub fn release(
         mut self,
-        win: &mut [u32],
+        tree: &mut TreeMut<'_>,
         free: &mut [u32],
-        dues: &mut [f64],
-        seqs: &mut [u64],
-        arrivals: &[f64],
-        routes: &[u64],
-        copy_ids: &[u32],
-        lengths: &[u32],
-        store: &[u8],
+        rows: Rows<'_>,
         now_ms: f64,
-    ) -> Released
-        ensures { after result (tables win.new free.new dues.new seqs.new arrivals.now routes.now copy_ids.now lengths.now store.now) ≡ release_of slot_width self (tables win.old free.old dues.old seqs.old arrivals.now routes.now copy_ids.now lengths.now store.now) now_ms }
+    ) -> (Device, Result<Option<Queued>, Refusal>)
+        ensures released { after result (exit_tables tree.new free.new rows.entry) ≡ release_of slot_width self (exit_tables tree.old free.old rows.entry) now_ms }
+        ensures same { SameTables tree.old tree.new }
     {
-        let queue = self.queue;
-        let memory = queue.has_memory(
-            win.len(),
-            free.len(),
-            dues.len(),
-            seqs.len(),
-            arrivals.len(),
-            routes.len(),
-            copy_ids.len(),
-            lengths.len(),
-            store.len(),
-        );
-        let number = self.call_refusal(memory, numbers::is_instant(now_ms), true);
-        if number != 0 {
-            return Released {
-                device: self,
-                answer: ReleaseAnswer::Refused(number),
-            };
-        }
-        let released = queue.release(
-            win, free, dues, seqs, arrivals, routes, copy_ids, lengths, store, now_ms,
-        );
-        let accounts = self.accounts;
-        let left = sending_of(released, accounts, now_ms);
-        let after = left.queue;
-        let sends = left.accounts;
-        let answer = left.answer;
-        self.queue = after;
-        self.accounts = sends;
-        Released {
-            device: self,
-            answer,
-        }
+        let answer = self.release_in_place(tree, free, rows, now_ms);
+        (self, answer)
     }
 }

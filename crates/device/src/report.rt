@@ -1,39 +1,32 @@
 // What a host is told of the line.
 ghost use Rattle.std.specs.Prelude.{◌≡◌};
-ghost use Rattle.device.specs.Others.{reported_with, report_of};
+ghost use Rattle.device.specs.Others.{report_of};
 
-use crate::answers::Reported;
 use crate::device::Device;
-use accounts::{DirectionStats, Outcome};
+use accounts::DirectionStats;
+use numbers::Refusal;
+
+// The statistics with the accounts merged, and the numbers of copies held and torn.
+#[derive(Clone, Copy)]
+pub struct Report {
+    pub stats: DirectionStats,
+    pub held: u64,
+    pub torn: u64,
+}
 
 impl Device {
-    // A report with these statistics.
-    fn reported(self, stats: DirectionStats, answer: Outcome) -> Reported
-        ensures { result ≡ reported_with self stats answer }
+    // The report, or a refusal by 25.
+    #[tactic(auto, unfolding(crate::specs::Others::report_of, crate::specs::Others::reported_by))]
+    pub fn report(&self) -> Result<Report, Refusal>
+        ensures { result ≡ report_of self.now }
     {
-        let queue = self.queue;
-        Reported {
+        self.judged(true, true, true)?;
+        let (stats, merged) = self.accounts.merge_into(self.engine.stats);
+        merged?;
+        Ok(Report {
             stats,
-            held: queue.len() as u64,
+            held: self.queue.len() as u64,
             torn: self.torn,
-            answer,
-        }
-    }
-
-    // The statistics with the accounts merged, and the copies held and torn, or a refusal by 25. The device stays as it is.
-    pub fn report(self) -> Reported
-        ensures { result ≡ report_of self }
-    {
-        let engine = self.engine;
-        let stats = engine.stats;
-        let number = self.call_refusal(true, true, true);
-        if number != 0 {
-            return self.reported(stats, Outcome::Refused(number));
-        }
-        let accounts = self.accounts;
-        let merged = accounts.merge_into(stats);
-        let joined = merged.stats;
-        let answer = merged.answer;
-        self.reported(joined, answer)
+        })
     }
 }

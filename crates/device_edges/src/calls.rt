@@ -5,13 +5,15 @@ use crate::asked::Asked;
 use crate::memory::Memory;
 use crate::words;
 use device::Device;
+use numbers::Refusal;
+use queue::{Rows, RowsMut, TreeMut};
 
-// The device and the memory after a call, and the number of the refusal or 0.
+// The device and the memory after a call, and why it was refused.
 #[derive(Clone, Copy)]
 pub struct Called {
     pub memory: Memory,
     pub device: Device,
-    pub number: u32,
+    pub refusal: Option<Refusal>,
 }
 
 // The call of a step: a arrive, r release, b rebind, and else teardown.
@@ -44,22 +46,21 @@ fn arrive(memory: Memory, device: Device, asked: Asked) -> Called {
     let mut store = memory.store;
     let bytes = [b'a'; 2049];
     let end = store_end(asked.short);
-    let arrived = device.arrive(
-        &mut win,
-        &free,
-        &mut dues,
-        &mut seqs,
-        &mut arrivals,
-        &mut routes,
-        &mut ids,
-        &mut lengths,
-        &mut store[..end],
-        asked.now_ms,
-        values::front(&bytes, asked.length),
-        7,
-    );
-    let after = arrived.device;
-    let answer = arrived.answer;
+    let mut tree = TreeMut {
+        win: &mut win,
+        dues: &mut dues,
+        seqs: &mut seqs,
+    };
+    let mut rows = RowsMut {
+        arrivals: &mut arrivals,
+        routes: &mut routes,
+        copy_ids: &mut ids,
+        lengths: &mut lengths,
+        store: &mut store[..end],
+    };
+    let packet = values::front(&bytes, asked.length);
+    let (after, answer) = device.arrive(&mut tree, &free, &mut rows, asked.now_ms, packet, 7);
+    words::arrived(answer);
     let left = Memory {
         win,
         free,
@@ -74,7 +75,7 @@ fn arrive(memory: Memory, device: Device, asked: Asked) -> Called {
     Called {
         memory: left,
         device: after,
-        number: words::arrived(answer),
+        refusal: answer.err(),
     }
 }
 
@@ -88,20 +89,20 @@ fn release(mut memory: Memory, device: Device, asked: Asked) -> Called {
     let ids = memory.ids;
     let lengths = memory.lengths;
     let store = memory.store;
-    let released = device.release(
-        &mut win,
-        &mut free,
-        &mut dues,
-        &mut seqs,
-        &arrivals,
-        &routes,
-        &ids,
-        &lengths,
-        values::front(&store, store_end(asked.short)),
-        asked.now_ms,
-    );
-    let after = released.device;
-    let answer = released.answer;
+    let mut tree = TreeMut {
+        win: &mut win,
+        dues: &mut dues,
+        seqs: &mut seqs,
+    };
+    let rows = Rows {
+        arrivals: &arrivals,
+        routes: &routes,
+        copy_ids: &ids,
+        lengths: &lengths,
+        store: values::front(&store, store_end(asked.short)),
+    };
+    let (after, answer) = device.release(&mut tree, &mut free, rows, asked.now_ms);
+    words::released(answer, &store);
     memory.win = win;
     memory.free = free;
     memory.dues = dues;
@@ -109,28 +110,26 @@ fn release(mut memory: Memory, device: Device, asked: Asked) -> Called {
     Called {
         memory,
         device: after,
-        number: words::released(answer, &store),
+        refusal: answer.err(),
     }
 }
 
 fn rebind(memory: Memory, device: Device, now_ms: f64) -> Called {
-    let rebound = device.rebind(now_ms);
-    let after = rebound.device;
-    let answer = rebound.answer;
+    let (after, answer) = device.rebind(now_ms);
+    words::rebound(answer);
     Called {
         memory,
         device: after,
-        number: words::rebound(answer),
+        refusal: answer.err(),
     }
 }
 
 fn teardown(memory: Memory, device: Device) -> Called {
-    let torn = device.teardown();
-    let after = torn.device;
-    let answer = torn.answer;
+    let (after, answer) = device.teardown();
+    words::torn(answer);
     Called {
         memory,
         device: after,
-        number: words::torn(answer),
+        refusal: answer.err(),
     }
 }

@@ -4,7 +4,7 @@ use crate::calls::Called;
 use crate::memory::Memory;
 use crate::{altered, calls, creation, payloads, same, words};
 use device::Device;
-use numbers::REFUSED_KEEPING;
+use numbers::Refusal;
 
 // `kept` says whether every refused call so far has kept the device as it was, and `named` whether the case has its name.
 #[derive(Clone, Copy)]
@@ -19,8 +19,7 @@ pub struct Host {
 impl Host {
     // Before the first step: the device of a refused creation.
     pub fn new() -> Self {
-        let created = creation::created(b'-', 0, 0);
-        let device = created.device;
+        let (device, _) = creation::created(b'-', 0, 0);
         Host {
             memory: Memory::zeros(),
             device,
@@ -32,10 +31,8 @@ impl Host {
 
     pub fn create(mut self) -> Self {
         let asked = self.asked;
-        let created = creation::created(asked.settings, asked.cap, asked.short_table);
-        let answer = created.answer;
+        let (device, answer) = creation::created(asked.settings, asked.cap, asked.short_table);
         words::created(answer);
-        let device = created.device;
         self.device = device;
         self
     }
@@ -83,8 +80,11 @@ impl Host {
         let memory = called.memory;
         let before = self.device;
         let after = called.device;
-        let free = (called.number == 0) | (called.number == REFUSED_KEEPING);
-        self.kept = self.kept & (free | same::is_same(before, after));
+        let kept = match called.refusal {
+            None | Some(Refusal::Keeping) => true,
+            Some(_) => same::is_same(before, after),
+        };
+        self.kept = self.kept & kept;
         self.memory = memory;
         self.device = after;
         self

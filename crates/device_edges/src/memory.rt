@@ -38,22 +38,8 @@ impl Memory {
     }
 }
 
-fn entries(short: bool) -> usize {
-    if short { 1 } else { 2 }
-}
-
 // The table of two entries, or its first where it is short.
-pub fn words(table: &[u32], short: bool) -> &[u32] {
-    let n = entries(short);
-    if n <= table.len() { &table[..n] } else { table }
-}
-
-pub fn longs(table: &[u64], short: bool) -> &[u64] {
-    let n = entries(short);
-    if n <= table.len() { &table[..n] } else { table }
-}
-
-pub fn floats(table: &[f64], short: bool) -> &[f64] {
-    let n = entries(short);
+pub fn entries<T>(table: &[T], short: bool) -> &[T] {
+    let n = if short { 1 } else { 2 };
     if n <= table.len() { &table[..n] } else { table }
 }

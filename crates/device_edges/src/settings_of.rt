@@ -1,5 +1,5 @@
 // The settings of the devices.
-use options::{DirectionConfig, RateOption};
+use options::DirectionConfig;
 use settings::{KillStyle, TcpKill, Window};
 
 // The settings that a letter stands for; any other letter stands for none.
@@ -65,7 +65,7 @@ fn rate() -> DirectionConfig {
         reorder_p: d.reorder_p,
         reorder_delay_ms: d.reorder_delay_ms,
         duplicate_p: d.duplicate_p,
-        rate_bps: RateOption::Present(8000),
+        rate_bps: Some(8000),
         rate_burst_bytes: d.rate_burst_bytes,
         mtu,
         blackouts,

@@ -1,72 +1,59 @@
-// The answers as words. Returned is the number of the refusal, or 0.
-use accounts::Outcome;
-use device::{ArriveAnswer, CreateAnswer, Device, RebindAnswer, Reported, TeardownAnswer};
-use queue::{Queued, ReleaseAnswer};
+// The answers as words.
+use device::{Arrived, Device, Report};
+use numbers::Refusal;
+use queue::Queued;
 use script::payload;
 use steps::Decision;
 
-fn refused(number: u32) -> u32 {
-    numbered(b"; refused", number as u64);
-    number
+fn refused(refusal: Refusal) {
+    numbered(b"; refused", refusal.number() as u64);
 }
 
 // The word and the number.
-fn numbered(word: &[u8], n: u64) -> u32 {
+fn numbered(word: &[u8], n: u64) {
     output::text(word);
     output::count(n);
-    0
 }
 
-pub fn created(answer: CreateAnswer) {
+pub fn created(answer: Result<(), Refusal>) {
     match answer {
-        CreateAnswer::Created => output::text(b"; created"),
-        CreateAnswer::Refused(number) => {
-            refused(number);
-        }
+        Ok(()) => output::text(b"; created"),
+        Err(refusal) => refused(refusal),
     }
 }
 
-pub fn arrived(answer: ArriveAnswer) -> u32 {
+pub fn arrived(answer: Result<Arrived, Refusal>) {
     match answer {
-        ArriveAnswer::Decided {
-            decision,
-            entered,
-            overflowed,
-            torn,
-        } => decided(decision, entered, overflowed, torn),
-        ArriveAnswer::Refused(number) => refused(number),
+        Ok(arrived) => decided(arrived),
+        Err(refusal) => refused(refusal),
     }
 }
 
 // No case has a drop.
-fn decided(decision: Decision, entered: u64, overflowed: u64, torn: u64) -> u32 {
-    match decision {
+fn decided(arrived: Arrived) {
+    match arrived.decision {
         Decision::Enqueue { due_ms, extra_dup } => {
             output::text(b"; enqueue");
             output::float(due_ms);
             output::flag(extra_dup);
-            output::count(entered);
-            output::count(overflowed);
-            0
+            output::count(arrived.entered);
+            output::count(arrived.overflowed);
         }
-        Decision::KillRst => numbered(b"; reset", torn),
+        Decision::KillRst => numbered(b"; reset", arrived.torn),
         _ => numbered(b"; drop", 0),
     }
 }
 
 // The bytes of a copy that left lie in the store.
-pub fn released(answer: ReleaseAnswer, store: &[u8]) -> u32 {
+pub fn released(answer: Result<Option<Queued>, Refusal>, store: &[u8]) {
     match answer {
-        ReleaseAnswer::Released(copy) => left(copy, store),
-        ReleaseAnswer::NoneDue => {
-            output::text(b"; none");
-            0
-        }
-        ReleaseAnswer::Refused(number) => refused(number),
+        Ok(Some(copy)) => left(copy, store),
+        Ok(None) => output::text(b"; none"),
+        Err(refusal) => refused(refusal),
     }
 }
 
-fn left(copy: Queued, store: &[u8]) -> u32 {
+fn left(copy: Queued, store: &[u8]) {
     output::text(b"; released");
     output::float(copy.due_ms);
     output::count(copy.seq);
@@ -75,42 +62,40 @@ fn left(copy: Queued, store: &[u8]) -> u32 {
     output::count(copy.copy_id as u64);
     output::count(copy.length as u64);
     output::hex(payload::sum(device::payload(store, copy.slot, copy.length)));
-    0
 }
 
-pub fn rebound(answer: RebindAnswer) -> u32 {
+pub fn rebound(answer: Result<bool, Refusal>) {
     match answer {
-        RebindAnswer::Said(yes) => numbered(b"; rebind", yes as u64),
-        RebindAnswer::Refused(number) => refused(number),
+        Ok(yes) => numbered(b"; rebind", yes as u64),
+        Err(refusal) => refused(refusal),
     }
 }
 
-pub fn torn(answer: TeardownAnswer) -> u32 {
+pub fn torn(answer: Result<u64, Refusal>) {
     match answer {
-        TeardownAnswer::Torn(copies) => numbered(b"; torn", copies),
-        TeardownAnswer::Refused(number) => refused(number),
+        Ok(copies) => numbered(b"; torn", copies),
+        Err(refusal) => refused(refusal),
+    }
+}
+
+pub fn reported(answer: Result<Report, Refusal>) {
+    match answer {
+        Ok(report) => told(report),
+        Err(refusal) => refused(refusal),
     }
 }
 
 // Packets received and sent, overflow, duplicates, resets, the sum of the latencies, and the copies held and torn.
-pub fn reported(report: Reported) {
-    let answer = report.answer;
+fn told(report: Report) {
     let stats = report.stats;
-    match answer {
-        Outcome::Done => {
-            numbered(b"; report", stats.received_pkts);
-            output::count(stats.sent_pkts);
-            output::count(stats.dropped_overflow);
-            output::count(stats.duplicates);
-            output::count(stats.tcp_rst_kills);
-            output::float(stats.latency_sum_ms);
-            numbered(b" held", report.held);
-            numbered(b" torn", report.torn);
-        }
-        Outcome::Refused(number) => {
-            refused(number);
-        }
-    }
+    numbered(b"; report", stats.received_pkts);
+    output::count(stats.sent_pkts);
+    output::count(stats.dropped_overflow);
+    output::count(stats.duplicates);
+    output::count(stats.tcp_rst_kills);
+    output::float(stats.latency_sum_ms);
+    numbered(b" held", report.held);
+    numbered(b" torn", report.torn);
 }
 
 pub fn kept(yes: bool) {

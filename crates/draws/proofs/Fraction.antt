@@ -20,15 +20,15 @@ unfolding output_of
 output_lt x = mod-lt _ (pow_pos 64)
 
 -- every draw is the top bits of its output over their number of values
-pub draw_exact : (g : Rng) → HasValue (next_f64_of g).value false (top_bits draw_width (output_of g.state)) (2 ^ draw_width)
+pub draw_exact : (g : Rng) → HasValue (next_f64_of g).1 false (top_bits draw_width (output_of g.state)) (2 ^ draw_width)
 unfolding next_f64_of
 draw_exact g = fraction_exact draw_width (output_of g.state) (le_refl draw_width) (output_lt g.state)
 
 -- a draw is finite with a clear sign bit, and below 1
-pub draw_plus : (g : Rng) → PlusFinite (next_f64_of g).value
+pub draw_plus : (g : Rng) → PlusFinite (next_f64_of g).1
 draw_plus g = value_plus _ _ _ (draw_exact g)
 
-pub draw_below_one : (g : Rng) → lt (next_f64_of g).value (power_below 0) ≡ true
+pub draw_below_one : (g : Rng) → lt (next_f64_of g).1 (power_below 0) ≡ true
 draw_below_one g =
     let k = top_bits draw_width (output_of g.state) in
     lt_values _ (power_below 0) k (2 ^ draw_width) 1 1 (pow_pos draw_width) (lit< tt) (draw_exact g) (power_value 0)

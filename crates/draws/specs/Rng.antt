@@ -6,8 +6,6 @@ use Rattle.std.specs.Float.Ieee.{mul}
 use Rattle.numbers.specs.Whole.{whole}
 use Rattle.numbers.specs.Wrapping.{wrapping_mul_of}
 use Rattle.draws.specs.declared.rng.Rng.{Rng}
-use Rattle.draws.specs.declared.rng.DrawU64.{DrawU64}
-use Rattle.draws.specs.declared.rng.DrawF64.{DrawF64}
 use Rattle.draws.specs.Shifts.{xor_shift_right, xor_shift_left, top_bits, golden_gamma}
 
 -- a seed is the state, but for 0, which would stay 0 (document 01, "Draws")
@@ -22,8 +20,8 @@ step_of x = xor_shift_right (xor_shift_left (xor_shift_right x 12) 25) 27
 unfoldable pub output_of : ℕ → ℕ
 output_of x = wrapping_mul_of (step_of x) 0x2545F4914F6CDD1D
 
-unfoldable pub next_u64_of : Rng → DrawU64
-next_u64_of g = record { rng = record { state = step_of g.state }; value = output_of g.state }
+unfoldable pub next_u64_of : Rng → Rng × ℕ
+next_u64_of g = (record { state = step_of g.state }, output_of g.state)
 
 -- 2 ^ -w
 abbrev pub power_below : ℕ → Float
@@ -39,5 +37,5 @@ abbrev pub draw_width : ℕ
 draw_width = 53
 
 -- a draw from 0 up to 1 (document 01, "Draws")
-unfoldable pub next_f64_of : Rng → DrawF64
-next_f64_of g = record { rng = record { state = step_of g.state }; value = fraction_of draw_width (output_of g.state) }
+unfoldable pub next_f64_of : Rng → Rng × Float
+next_f64_of g = (record { state = step_of g.state }, fraction_of draw_width (output_of g.state))

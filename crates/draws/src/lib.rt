@@ -4,5 +4,5 @@
 mod rng;
 mod seeds;
 
-pub use rng::{DrawF64, DrawU64, Rng};
+pub use rng::Rng;
 pub use seeds::{direction_seed, mix};

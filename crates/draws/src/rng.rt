@@ -13,22 +13,9 @@ pub struct Rng {
     pub state: u64,
 }
 
-// A draw of 64 bits, and the generator after it.
-#[derive(Clone, Copy)]
-pub struct DrawU64 {
-    pub rng: Rng,
-    pub value: u64,
-}
-
-// A draw from 0 up to 1, and the generator after it.
-#[derive(Clone, Copy)]
-pub struct DrawF64 {
-    pub rng: Rng,
-    pub value: f64,
-}
-
 impl Rng {
     // The generator for a seed. Seed 0 is replaced, since a state of 0 would stay 0.
+    #[tactic(auto, unfolding(crate::specs::Rng::new_rng_of))]
     pub fn new(seed: u64) -> Rng
         ensures { result ≡ new_rng_of seed }
     {
@@ -41,7 +28,9 @@ impl Rng {
         }
     }
 
-    pub fn next_u64(mut self) -> DrawU64
+    // The next output, behind the generator after it.
+    #[tactic(auto, unfolding(crate::specs::Rng::next_u64_of, crate::specs::Rng::output_of, crate::specs::Rng::step_of))]
+    pub fn next_u64(mut self) -> (Rng, u64)
         ensures { result ≡ next_u64_of self }
     {
         let mut x = self.state;
@@ -49,20 +38,15 @@ impl Rng {
         x ^= x << 25;
         x ^= x >> 27;
         self.state = x;
-        let value = numbers::wrapping_mul(x, 0x2545_F491_4F6C_DD1D);
-        DrawU64 { rng: self, value }
+        (self, numbers::wrapping_mul(x, 0x2545_F491_4F6C_DD1D))
     }
 
-    // A draw: 53 bits of the next output, scaled without rounding.
-    pub fn next_f64(mut self) -> DrawF64
+    // A draw from 0 up to 1, behind the generator after it: 53 bits of the next output, scaled without rounding.
+    pub fn next_f64(self) -> (Rng, f64)
         ensures { result ≡ next_f64_of self }
     {
-        let drawn = self.next_u64();
-        let rng = drawn.rng;
-        let top = drawn.value >> 11;
-        DrawF64 {
-            rng,
-            value: top as f64 * (1.0 / DRAWS),
-        }
+        let (rng, value) = self.next_u64();
+        let top = value >> 11;
+        (rng, top as f64 * (1.0 / DRAWS))
     }
 }

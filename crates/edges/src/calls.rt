@@ -5,16 +5,14 @@ use engine::ArrivalEngine;
 // An engine of these settings with the generator's seed 1. A refused one has the default settings and the generator of seed 0.
 pub fn made(e: ArrivalEngine) -> ArrivalEngine {
     let cfg = e.cfg;
-    let changed = ArrivalEngine::new(cfg, 1);
-    changed.engine
+    let (engine, _) = ArrivalEngine::new(cfg, 1);
+    engine
 }
 
 // The same, with its answer and the generator's state.
 pub fn created(e: ArrivalEngine) -> ArrivalEngine {
     let cfg = e.cfg;
-    let changed = ArrivalEngine::new(cfg, 1);
-    let outcome = changed.outcome;
-    let engine = changed.engine;
+    let (engine, outcome) = ArrivalEngine::new(cfg, 1);
     let rng = engine.rng;
     words::outcome(b"created", outcome);
     output::hex(rng.state);
@@ -22,24 +20,21 @@ pub fn created(e: ArrivalEngine) -> ArrivalEngine {
 }
 
 pub fn decided(e: ArrivalEngine, now_ms: f64, len: usize) -> ArrivalEngine {
-    let d = e.decide(now_ms, len);
-    let answer = d.answer;
+    let (engine, answer) = e.decide(now_ms, len);
     words::decided(answer);
-    d.engine
+    engine
 }
 
 pub fn rebound(e: ArrivalEngine, now_ms: f64) -> ArrivalEngine {
-    let rebound = e.should_rebind_now(now_ms);
-    let answer = rebound.answer;
+    let (engine, answer) = e.should_rebind_now(now_ms);
     words::said(b"rebind ", answer);
-    rebound.engine
+    engine
 }
 
 pub fn overflowed(e: ArrivalEngine) -> ArrivalEngine {
-    let changed = e.stats_inc_overflow();
-    let outcome = changed.outcome;
+    let (engine, outcome) = e.stats_inc_overflow();
     words::outcome(b"overflow", outcome);
-    changed.engine
+    engine
 }
 
 // The calls and the words of the steps that change nothing: s whether there is a reset now, t whether a hold; o credit, last refill and packets received, g the

@@ -1,8 +1,8 @@
 // Settings that are altered in one thing.
 use crate::lists;
 use crate::step_numbers::Numbers;
-use options::{DirectionConfig, MtuOption, RateOption};
-use settings::{Ge, GeOption};
+use options::DirectionConfig;
+use settings::Ge;
 
 // What a step sets: L loss, D delay, J jitter, O reorder, P reorder delay, U duplicate, B burst, Y the period of rebinds; R the rate, M the longest datagram and G
 // burst loss; the lists are those of `lists`.
@@ -27,9 +27,9 @@ fn optional(d: DirectionConfig, step: u8, n: Numbers) -> DirectionConfig {
     let rate = d.rate_bps;
     let mtu = d.mtu;
     match step {
-        b'R' => limited(d, RateOption::Present(n.last), mtu, ge),
-        b'M' => limited(d, rate, MtuOption::Present(n.last as usize), ge),
-        b'G' => limited(d, rate, mtu, GeOption::Present(burst_loss(n))),
+        b'R' => limited(d, Some(n.last), mtu, ge),
+        b'M' => limited(d, rate, Some(n.last as usize), ge),
+        b'G' => limited(d, rate, mtu, Some(burst_loss(n))),
         _ => d,
     }
 }
@@ -45,9 +45,9 @@ fn burst_loss(n: Numbers) -> Ge {
 // The settings with this rate, this longest datagram and this burst loss.
 fn limited(
     d: DirectionConfig,
-    rate_bps: RateOption,
-    mtu: MtuOption,
-    ge: GeOption,
+    rate_bps: Option<u64>,
+    mtu: Option<usize>,
+    ge: Option<Ge>,
 ) -> DirectionConfig {
     let blackouts = d.blackouts;
     let tcp_kills = d.tcp_kills;

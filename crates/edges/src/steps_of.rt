@@ -27,8 +27,7 @@ pub fn run(text: &[u8]) {
 // Before the first step the settings are the default ones.
 fn first() -> Case {
     let settings = DirectionConfig::default();
-    let made = ArrivalEngine::new(settings, 1);
-    let engine = made.engine;
+    let (engine, _) = ArrivalEngine::new(settings, 1);
     Case {
         engine,
         numbers: Numbers::none(),

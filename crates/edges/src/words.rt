@@ -1,9 +1,9 @@
 // Answers and states as words, each behind a blank.
-use accounts::Outcome;
-use engine::{BoolAnswer, DecideAnswer};
+use numbers::Refusal;
 use output::collected;
+use steps::Decision;
 
-pub fn outcome(word: &[u8], outcome: Outcome) {
+pub fn outcome(word: &[u8], outcome: Result<(), Refusal>) {
     let mut space = [0u8; 64];
     let out: &mut [u8] = &mut space;
     let blank = collected::text(out, 0, b" ");
@@ -11,7 +11,7 @@ pub fn outcome(word: &[u8], outcome: Outcome) {
     collected::flush(out, all);
 }
 
-pub fn said(word: &[u8], answer: BoolAnswer) {
+pub fn said(word: &[u8], answer: Result<bool, Refusal>) {
     let mut space = [0u8; 64];
     let out: &mut [u8] = &mut space;
     let blank = collected::text(out, 0, b" ");
@@ -19,7 +19,7 @@ pub fn said(word: &[u8], answer: BoolAnswer) {
     collected::flush(out, all);
 }
 
-pub fn decided(answer: DecideAnswer) {
+pub fn decided(answer: Result<Decision, Refusal>) {
     let mut space = [0u8; 64];
     let out: &mut [u8] = &mut space;
     let blank = collected::text(out, 0, b" ");

@@ -2,10 +2,9 @@
 use Rattle.std.specs.Prelude.{ℕ, Float}
 use Rattle.steps.specs.Arrival.{arrived_of}
 use Rattle.steps.specs.declared.arrival.Arrival.{Arrival}
-use Rattle.judgement.specs.Scalars.{scalars_of}
+use Rattle.steps.specs.declared.decision.Decision.{Decision}
 use Rattle.engine.specs.Counts.{counted_of}
 use Rattle.engine.specs.Engine.{state_of, gate_at_of}
-use Rattle.engine.specs.declared.answers.Arrived.{Arrived}
 use Rattle.engine.specs.declared.engine.ArrivalEngine.{ArrivalEngine}
 
 -- the engine after an arrival of len bytes
@@ -22,7 +21,7 @@ after_of e len a =
       stats = counted_of e.stats len a;
     }
 
-unfoldable pub decide_passed_of : ArrivalEngine → Float → ℕ → Arrived
+unfoldable pub decide_passed_of : ArrivalEngine → Float → ℕ → ArrivalEngine × Decision
 decide_passed_of e now len =
-    let a = arrived_of (gate_at_of e.cfg now) (scalars_of e.cfg) (state_of e) now len in
-    record { engine = after_of e len a; decision = a.decision }
+    let a = arrived_of (gate_at_of e.cfg now) e.cfg (state_of e) now len in
+    (after_of e len a, a.decision)

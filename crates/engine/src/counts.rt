@@ -1,8 +1,9 @@
 // How an arrival is counted.
-ghost use Rattle.std.specs.Prelude.{◌≡◌, true};
-ghost use Rattle.numbers.specs.Limits.{is_length_of};
-ghost use Rattle.accounts.specs.Counters.{are_counters, stats_counters};
-ghost use Rattle.engine.specs.Counts.{one_if, counts_of, counted_of};
+ghost use Rattle.std.specs.Prelude.{◌≡◌, ◌≤◌};
+ghost use Rattle.numbers.specs.Limits.{max_length};
+ghost use Rattle.accounts.specs.Laws.Small.{SmallStats};
+ghost use Rattle.engine.specs.Counts.{counts_of, counted_of};
+ghost use Rattle.engine.specs.Laws.Counts.{Single};
 
 use accounts::DirectionStats;
 use steps::{Arrival, Decision};
@@ -17,56 +18,50 @@ pub struct DecisionCounts {
     pub duplicates: u64,
 }
 
-fn one_if(b: bool) -> u64
-    ensures { result ≡ one_if b }
-{
-    if b { 1 } else { 0 }
-}
+const NONE: DecisionCounts = DecisionCounts {
+    random: 0,
+    ge: 0,
+    mtu: 0,
+    blackout: 0,
+    duplicates: 0,
+};
 
-fn counts(random: u64, ge: u64, mtu: u64, blackout: u64, duplicates: u64) -> DecisionCounts
-    ensures { result ≡ record { random = random; ge = ge; mtu = mtu; blackout = blackout; duplicates = duplicates } }
-{
-    DecisionCounts {
-        random,
-        ge,
-        mtu,
-        blackout,
-        duplicates,
-    }
-}
-
+#[tactic(auto, unfolding(crate::specs::Counts::counts_of, crate::specs::Counts::one_if))]
 fn counts_of(decision: Decision) -> DecisionCounts
-    ensures { result ≡ counts_of decision }
+    ensures counts { result ≡ counts_of decision }
+    ensures single { Single result }
 {
     match decision {
-        Decision::DropRandom => counts(1, 0, 0, 0, 0),
-        Decision::DropGe => counts(0, 1, 0, 0, 0),
-        Decision::DropMtu => counts(0, 0, 1, 0, 0),
-        Decision::DropBlackout => counts(0, 0, 0, 1, 0),
-        Decision::DropKillHold => counts(0, 0, 0, 1, 0),
-        Decision::Enqueue { extra_dup, .. } => counts(0, 0, 0, 0, one_if(extra_dup)),
-        Decision::KillRst => counts(0, 0, 0, 0, 0),
+        Decision::DropRandom => DecisionCounts { random: 1, ..NONE },
+        Decision::DropGe => DecisionCounts { ge: 1, ..NONE },
+        Decision::DropMtu => DecisionCounts { mtu: 1, ..NONE },
+        Decision::DropBlackout | Decision::DropKillHold => DecisionCounts {
+            blackout: 1,
+            ..NONE
+        },
+        Decision::Enqueue { extra_dup, .. } => DecisionCounts {
+            duplicates: u64::from(extra_dup),
+            ..NONE
+        },
+        Decision::KillRst => NONE,
     }
 }
 
-// The statistics with one packet more.
-pub(crate) fn counted(mut s: DirectionStats, len: usize, a: Arrival) -> DirectionStats
-    requires s_value { are_counters (stats_counters s) ≡ true }
-    requires len_value { is_length_of len ≡ true }
-    ensures { result ≡ counted_of s len a }
+// Counts one packet more.
+#[tactic(auto, unfolding(crate::specs::Counts::counted_of, crate::specs::Counts::one_if))]
+pub(crate) fn count(s: &mut DirectionStats, len: usize, a: Arrival)
+    requires counters { SmallStats s.old }
+    requires length { len ≤ max_length }
+    ensures { s.new ≡ counted_of s.old len a }
 {
-    let decision = a.decision;
-    let c = counts_of(decision);
-    let deferred = one_if(a.deferred);
-    let reordered = one_if(a.reordered);
+    let c = counts_of(a.decision);
     s.received_pkts += 1;
     s.received_bytes += len as u64;
     s.dropped_random += c.random;
     s.dropped_ge += c.ge;
     s.dropped_mtu += c.mtu;
     s.dropped_blackout += c.blackout;
-    s.rate_deferred += deferred;
+    s.rate_deferred += u64::from(a.deferred);
     s.duplicates += c.duplicates;
-    s.reorder_hits += reordered;
-    s
+    s.reorder_hits += u64::from(a.reordered);
 }

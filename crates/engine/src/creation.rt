@@ -3,21 +3,21 @@ ghost use Rattle.std.specs.Prelude.{◌≡◌};
 ghost use Rattle.engine.specs.Engine.{fresh_of, next_rebind_of};
 ghost use Rattle.engine.specs.Calls.{new_engine_of};
 
-use crate::answers::Changed;
 use crate::engine::ArrivalEngine;
-use accounts::{DirectionStats, Outcome};
+use accounts::DirectionStats;
 use draws::Rng;
-use numbers::REFUSED_SETTINGS;
+use numbers::Refusal;
 use options::DirectionConfig;
 
 // The instant of the first rebind; without a period it never comes.
+#[tactic(auto, unfolding(crate::specs::Engine::next_rebind_of))]
 fn next_rebind(nat_change_every_ms: u64) -> f64
     ensures { result ≡ next_rebind_of nat_change_every_ms }
 {
     if nat_change_every_ms > 0 {
         numbers::float_of(nat_change_every_ms)
     } else {
-        1.0 / 0.0
+        f64::INFINITY
     }
 }
 
@@ -25,41 +25,29 @@ fn next_rebind(nat_change_every_ms: u64) -> f64
 fn fresh(cfg: DirectionConfig, seed: u64) -> ArrivalEngine
     ensures { result ≡ fresh_of cfg seed }
 {
-    let rate = cfg.rate_bps;
-    let capacity = steps::bucket_capacity(rate, cfg.rate_burst_bytes);
-    let tokens = numbers::float_of(capacity);
-    let next_rebind_ms = next_rebind(cfg.nat_change_every_ms);
-    let rng = Rng::new(seed);
-    let stats = DirectionStats::default();
+    let capacity = steps::bucket_capacity(cfg.rate_bps, cfg.rate_burst_bytes);
     ArrivalEngine {
         cfg,
-        rng,
+        rng: Rng::new(seed),
         ge_bad: false,
-        tokens,
+        tokens: numbers::float_of(capacity),
         last_refill_ms: 0.0,
-        next_rebind_ms,
+        next_rebind_ms: next_rebind(cfg.nat_change_every_ms),
         rebinds_done: 0,
-        stats,
+        stats: DirectionStats::default(),
     }
 }
 
 impl ArrivalEngine {
     // A new engine; refused settings give that of the default settings with the generator's seed 0.
-    pub fn new(cfg: DirectionConfig, seed: u64) -> Changed
+    #[tactic(auto, unfolding(crate::specs::Calls::new_engine_of))]
+    pub fn new(cfg: DirectionConfig, seed: u64) -> (Self, Result<(), Refusal>)
         ensures { result ≡ new_engine_of cfg seed }
     {
-        if !judgement::is_settings(cfg) {
-            let default = DirectionConfig::default();
-            let idle = fresh(default, 0);
-            return Changed {
-                engine: idle,
-                outcome: Outcome::Refused(REFUSED_SETTINGS),
-            };
+        if !judgement::is_settings(&cfg) {
+            let idle = fresh(DirectionConfig::default(), 0);
+            return (idle, Err(Refusal::Settings));
         }
-        let engine = fresh(cfg, seed);
-        Changed {
-            engine,
-            outcome: Outcome::Done,
-        }
+        (fresh(cfg, seed), Ok(()))
     }
 }

@@ -2,28 +2,25 @@
 ghost use Rattle.std.specs.Prelude.{◌≡◌};
 ghost use Rattle.engine.specs.Calls.{stats_inc_overflow_of};
 
-use crate::answers::Changed;
 use crate::engine::ArrivalEngine;
-use accounts::Outcome;
+use numbers::Refusal;
 
 impl ArrivalEngine {
+    // Counts the copy.
+    #[tactic(auto, unfolding(crate::specs::Calls::stats_inc_overflow_of, crate::specs::Changes::with_overflow, crate::specs::Changes::with_others))]
+    fn overflowed(&mut self) -> Result<(), Refusal>
+        ensures { (self.new, result) ≡ stats_inc_overflow_of self.old }
+    {
+        self.judged(true, true)?;
+        self.stats.dropped_overflow += 1;
+        Ok(())
+    }
+
     // One copy more that a full queue turned away, or a refusal by 29 or 25.
-    pub fn stats_inc_overflow(mut self) -> Changed
+    pub fn stats_inc_overflow(mut self) -> (Self, Result<(), Refusal>)
         ensures { result ≡ stats_inc_overflow_of self }
     {
-        let k = self.judged(true, true);
-        if k != 0 {
-            return Changed {
-                engine: self,
-                outcome: Outcome::Refused(k),
-            };
-        }
-        let mut stats = self.stats;
-        stats.dropped_overflow += 1;
-        self.stats = stats;
-        Changed {
-            engine: self,
-            outcome: Outcome::Done,
-        }
+        let answer = self.overflowed();
+        (self, answer)
     }
 }

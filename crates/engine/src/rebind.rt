@@ -2,36 +2,30 @@
 ghost use Rattle.std.specs.Prelude.{◌≡◌};
 ghost use Rattle.engine.specs.Calls.{should_rebind_now_of};
 
-use crate::answers::{BoolAnswer, Rebound};
 use crate::engine::ArrivalEngine;
+use numbers::Refusal;
 
 impl ArrivalEngine {
+    // Rebinds where the instant of the next rebind has come.
+    #[tactic(auto, unfolding(crate::specs::Calls::should_rebind_now_of, crate::specs::Changes::rebound_of, crate::specs::Changes::with_others))]
+    fn rebound(&mut self, now_ms: f64) -> Result<bool, Refusal>
+        ensures { (self.new, result) ≡ should_rebind_now_of self.old now_ms }
+    {
+        self.judged(numbers::is_instant(now_ms), true)?;
+        if now_ms >= self.next_rebind_ms {
+            self.rebinds_done += 1;
+            self.stats.nat_rebinds = self.rebinds_done;
+            self.next_rebind_ms += numbers::float_of(self.cfg.nat_change_every_ms);
+            return Ok(true);
+        }
+        Ok(false)
+    }
+
     // Whether the outbound socket is to be changed now, or a refusal by 29, 21 or 25.
-    pub fn should_rebind_now(mut self, now_ms: f64) -> Rebound
+    pub fn should_rebind_now(mut self, now_ms: f64) -> (Self, Result<bool, Refusal>)
         ensures { result ≡ should_rebind_now_of self now_ms }
     {
-        let k = self.judged(numbers::is_instant(now_ms), true);
-        if k != 0 {
-            return Rebound {
-                engine: self,
-                answer: BoolAnswer::Refused(k),
-            };
-        }
-        if now_ms >= self.next_rebind_ms {
-            let cfg = self.cfg;
-            let mut stats = self.stats;
-            self.rebinds_done += 1;
-            stats.nat_rebinds = self.rebinds_done;
-            self.stats = stats;
-            self.next_rebind_ms = self.next_rebind_ms + numbers::float_of(cfg.nat_change_every_ms);
-            return Rebound {
-                engine: self,
-                answer: BoolAnswer::Said(true),
-            };
-        }
-        Rebound {
-            engine: self,
-            answer: BoolAnswer::Said(false),
-        }
+        let answer = self.rebound(now_ms);
+        (self, answer)
     }
 }

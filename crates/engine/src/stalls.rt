@@ -2,32 +2,26 @@
 ghost use Rattle.std.specs.Prelude.{◌≡◌};
 ghost use Rattle.engine.specs.Calls.{rst_now_of, hold_now_of};
 
-use crate::answers::BoolAnswer;
 use crate::engine::ArrivalEngine;
 use crate::windows::{blackout_at, kill_at};
+use numbers::Refusal;
 
 impl ArrivalEngine {
     // Whether a kill that resets holds the instant, or a refusal by 29, 21 or 25.
-    pub fn rst_now(self, now_ms: f64) -> BoolAnswer
-        ensures { result ≡ rst_now_of self now_ms }
+    #[tactic(auto, unfolding(crate::specs::Calls::rst_now_of))]
+    pub fn rst_now(&self, now_ms: f64) -> Result<bool, Refusal>
+        ensures { result ≡ rst_now_of self.now now_ms }
     {
-        let k = self.judged(numbers::is_instant(now_ms), true);
-        if k != 0 {
-            return BoolAnswer::Refused(k);
-        }
-        let cfg = self.cfg;
-        BoolAnswer::Said(kill_at(cfg, true, now_ms))
+        self.judged(numbers::is_instant(now_ms), true)?;
+        Ok(kill_at(&self.cfg, true, now_ms))
     }
 
     // Whether a kill that holds, or a blackout, holds the instant, or a refusal by 29, 21 or 25.
-    pub fn hold_now(self, now_ms: f64) -> BoolAnswer
-        ensures { result ≡ hold_now_of self now_ms }
+    #[tactic(auto, unfolding(crate::specs::Calls::hold_now_of))]
+    pub fn hold_now(&self, now_ms: f64) -> Result<bool, Refusal>
+        ensures { result ≡ hold_now_of self.now now_ms }
     {
-        let k = self.judged(numbers::is_instant(now_ms), true);
-        if k != 0 {
-            return BoolAnswer::Refused(k);
-        }
-        let cfg = self.cfg;
-        BoolAnswer::Said(kill_at(cfg, false, now_ms) | blackout_at(cfg, now_ms))
+        self.judged(numbers::is_instant(now_ms), true)?;
+        Ok(kill_at(&self.cfg, false, now_ms) | blackout_at(&self.cfg, now_ms))
     }
 }

@@ -3,16 +3,15 @@
 
 pub mod stats;
 
-use accounts::Outcome;
-use engine::{BoolAnswer, DecideAnswer};
+use numbers::Refusal;
 use output::collected;
 use script::answers;
 use steps::Decision;
 
-pub fn decided(out: &mut [u8], at: usize, answer: DecideAnswer) -> usize {
+pub fn decided(out: &mut [u8], at: usize, answer: Result<Decision, Refusal>) -> usize {
     match answer {
-        DecideAnswer::Decided(decision) => decision_text(out, at, decision),
-        DecideAnswer::Refused(n) => answers::refused(out, at, n),
+        Ok(decision) => decision_text(out, at, decision),
+        Err(refusal) => answers::refused(out, at, refusal.number()),
     }
 }
 
@@ -36,20 +35,20 @@ fn enqueue_text(out: &mut [u8], at: usize, due_ms: f64, extra_dup: bool) -> usiz
 }
 
 // The word and 0 or 1, or the refusal.
-pub fn said(out: &mut [u8], at: usize, word: &[u8], answer: BoolAnswer) -> usize {
+pub fn said(out: &mut [u8], at: usize, word: &[u8], answer: Result<bool, Refusal>) -> usize {
     match answer {
-        BoolAnswer::Said(yes) => {
+        Ok(yes) => {
             let end = collected::text(out, at, word);
             collected::decimal(out, end, yes as u64)
         }
-        BoolAnswer::Refused(n) => answers::refused(out, at, n),
+        Err(refusal) => answers::refused(out, at, refusal.number()),
     }
 }
 
 // The word, or the refusal.
-pub fn outcome(out: &mut [u8], at: usize, word: &[u8], outcome: Outcome) -> usize {
+pub fn outcome(out: &mut [u8], at: usize, word: &[u8], outcome: Result<(), Refusal>) -> usize {
     match outcome {
-        Outcome::Done => collected::text(out, at, word),
-        Outcome::Refused(n) => answers::refused(out, at, n),
+        Ok(()) => collected::text(out, at, word),
+        Err(refusal) => answers::refused(out, at, refusal.number()),
     }
 }

@@ -1,4 +1,4 @@
--- Scalars: the settings of a direction without its lists, and what refusal 29 asks of them. Settings: which settings it lets through. Laws: that they pass
+-- Scalars: what refusal 29 asks of the settings of a direction beside its lists. Settings: which settings it lets through. Laws: that they pass
 -- which a text gives.
 pub mod Scalars
 pub mod Settings

@@ -7,5 +7,3 @@ mod scalars;
 mod setting;
 
 pub use direction::is_settings;
-pub use lists::{are_blackouts, are_tcp_kills};
-pub use scalars::{DirectionScalars, are_scalars, scalars_of};

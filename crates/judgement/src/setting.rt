@@ -5,21 +5,20 @@ ghost use Rattle.settings.specs.Judgement.{is_probability, is_time, is_positive,
 ghost use Rattle.judgement.specs.Scalars.{is_rate, is_mtu};
 
 use numbers::MAX_EXACT;
-use options::{MtuOption, RateOption};
-use settings::{GeOption, Window};
+use settings::{Ge, Window};
 
 // From 0 to 1; a NaN is not.
 pub(crate) fn is_probability(x: f64) -> bool
     ensures { result ≡ is_probability x }
 {
-    (0.0 <= x) & (x <= 1.0)
+    0.0 <= x && x <= 1.0
 }
 
 // From 0 to 999999999999999 milliseconds; a NaN is not.
 pub(crate) fn is_time(x: f64) -> bool
     ensures { result ≡ is_time x }
 {
-    (0.0 <= x) & (x <= 999999999999999.0)
+    0.0 <= x && x <= 999999999999999.0
 }
 
 // At most 2^53.
@@ -32,43 +31,34 @@ pub(crate) fn is_bounded(n: u64) -> bool
 fn is_positive(n: u64) -> bool
     ensures { result ≡ is_positive n }
 {
-    (n != 0) & is_bounded(n)
+    n != 0 && is_bounded(n)
 }
 
-pub(crate) fn is_ge(ge: GeOption) -> bool
+pub(crate) fn is_ge(ge: Option<Ge>) -> bool
     ensures { result ≡ is_ge ge }
 {
     match ge {
-        GeOption::Absent => true,
-        GeOption::Present(g) => is_probability(g.p) & (is_probability(g.r) & is_probability(g.h)),
+        None => true,
+        Some(g) => is_probability(g.p) && is_probability(g.r) && is_probability(g.h),
     }
 }
 
-pub(crate) fn is_rate(rate: RateOption) -> bool
+// A rate is a u64 and an MTU a usize, so that one function of both would be longer than the two.
+pub(crate) fn is_rate(rate: Option<u64>) -> bool
     ensures { result ≡ is_rate rate }
 {
-    match rate {
-        RateOption::Absent => true,
-        RateOption::Present(bps) => is_positive(bps),
-    }
+    rate.is_none_or(is_positive)
 }
 
-pub(crate) fn is_mtu(mtu: MtuOption) -> bool
+pub(crate) fn is_mtu(mtu: Option<usize>) -> bool
     ensures { result ≡ is_mtu mtu }
 {
-    match mtu {
-        MtuOption::Absent => true,
-        MtuOption::Present(most) => is_positive(most as u64),
-    }
+    mtu.is_none_or(|most| is_positive(most as u64))
 }
 
 // It ends after its start, and both bounds are at most 2^53; the start is, where the later end is.
 pub(crate) fn is_window(w: Window) -> bool
     ensures { result ≡ is_window w }
 {
-    if w.start_ms < w.end_ms {
-        is_bounded(w.end_ms)
-    } else {
-        false
-    }
+    w.start_ms < w.end_ms && is_bounded(w.end_ms)
 }

@@ -17,7 +17,6 @@ use Rattle.accounts.specs.Stats.{no_stats, latencies_of}
 use Rattle.options.specs.Config.{direction_with}
 use Rattle.options.specs.Directions.{default_burst_of}
 use Rattle.options.specs.Lines.{option_lines}
-use Rattle.judgement.specs.Scalars.{scalars_of}
 use Rattle.steps.specs.Arrival.{stopped_of, scheduled_of, from_mtu, from_ge, passed_of, arrived_of}
 use Rattle.steps.specs.Bucket.{rate_capacity_of, bucket_capacity_of, charged_of, last_refill_of, is_deferred_of}
 use Rattle.steps.specs.Burst.{burst_loss_of}
@@ -38,7 +37,7 @@ use Rattle.machine.specs.Lines.{OverflowLines, StarredLines}
 overflow_lines : OverflowLines
 unfolding answers after_all step arrive_step unless first_failing follow enter_copies enter_copy total in_range direction_with fresh_machine fresh_of next_rebind_of new_rng_of no_stats no_sends no_latencies
     is_instant_of is_length_of is_counter_of stats_counters latencies_of accountant_counters mix_of mix64_of with_overflow with_others
-    decide_passed_of after_of counted_of counts_of one_if scalars_of state_of gate_at_of gate_of kill_gate_of any_window_of
+    decide_passed_of after_of counted_of counts_of one_if state_of gate_at_of gate_of kill_gate_of any_window_of
     arrived_of passed_of from_ge from_mtu scheduled_of stopped_of chance_of burst_loss_of exceeds_of charged_of refilled_of bucket_capacity_of rate_capacity_of default_burst_of last_refill_of
     is_deferred_of jittered_of reordered_of owed_of waited_of wait_of
     next_f64_of step_of output_of fraction_of chosen_of add sub mul div neg lt le is_nan of_int

@@ -1,13 +1,11 @@
 -- Document 01's starred lines in one list, each a theorem about the definitions.
-use Rattle.std.specs.Prelude.{◌≡◌, true, List, [], ◌∷◌, length}
+use Rattle.std.specs.Prelude.{◌≡◌, true, List, [], ◌∷◌, length, None}
 use Rattle.numbers.specs.Whole.{whole}
 use Rattle.draws.specs.Lines.{DrawLines}
 use Rattle.accounts.specs.Lines.{AccountLines}
 use Rattle.options.specs.Config.{direction_with}
 use Rattle.options.specs.Lines.{OptionLines}
 use Rattle.options.specs.declared.config.DirectionConfig.{DirectionConfig}
-use Rattle.options.specs.declared.config.MtuOption.{MtuOption}
-use Rattle.options.specs.declared.config.RateOption.{RateOption}
 use Rattle.steps.specs.declared.decision.Decision.TheVariants.{Enqueue}
 use Rattle.engine.specs.Lines.{ArrivalLines}
 use Rattle.machine.specs.Machine.{Machine, host_creation, fresh_machine}
@@ -17,7 +15,7 @@ use Rattle.machine.specs.Tally.{total}
 
 -- settings that do nothing but duplicate every packet
 abbrev duplicating : DirectionConfig
-duplicating = direction_with (whole 0) (whole 1) RateOption.Absent MtuOption.Absent
+duplicating = direction_with (whole 0) (whole 1) None None
 
 -- a machine of capacity 1 with these settings, seed 1 and salt 0, and one arrival of three bytes at 0 with the route 7
 abbrev single : Machine

@@ -92,7 +92,7 @@ follow m KillRst now bytes route = step_to (decided KillRst 0 0 (length m.held))
 unfoldable pub arrive_step : Machine → Float → List ℕ → ℕ → Step
 arrive_step m now bytes route =
     let d = decide_passed_of m.engine now (length bytes) in
-    unless m (is_instant_of now) (is_length_of (length bytes)) (follow (with_engine m d.engine) d.decision now bytes route)
+    unless m (is_instant_of now) (is_length_of (length bytes)) (follow (with_engine m d.0) d.1 now bytes route)
 
 -- ---- release(now)
 

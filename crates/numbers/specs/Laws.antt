@@ -25,3 +25,5 @@ pub mod Checks
 pub mod Nearest
 pub mod Decimals
 pub mod Counted
+pub mod Results
+pub mod Literals

@@ -8,6 +8,7 @@ pub mod Extremes
 pub mod Instant
 pub mod Limits
 pub mod Refusals
+pub mod Results
 pub mod Checks
 pub mod Digits
 pub mod Credit

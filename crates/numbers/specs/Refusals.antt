@@ -1,5 +1,43 @@
 -- The numbers of the refusals, as document 01 gives them under "Who can cause a refusal".
-use Rattle.std.specs.Prelude.{ℕ}
+use Rattle.std.specs.Prelude.{◌≡◌, ℕ, ◌<◌, ◌⊎◌, Result, MatchResult}
+use Rattle.numbers.specs.declared.refusal.Refusal.{Refusal}
+use Rattle.numbers.specs.declared.refusal.UnknownRefusal.{UnknownRefusal}
+use Rattle.numbers.specs.declared.refusal.Refusal.TheVariants.{TextLength, TextEnd, Byte, Argument, ValueLacking, Mode, Whole, WholeAbove, Zero, Decimal, Probability, GeParts, GeZero, Reorder, Colon, Window, KillParts, KillStyle, Entries, OtherMode, Instant, Length, Memory, Capacity, Counter, Keeping, Due, Full, Settings}
+
+abbrev pub number_of : Refusal → ℕ
+number_of TextLength = 1
+number_of TextEnd = 2
+number_of Byte = 3
+number_of Argument = 4
+number_of ValueLacking = 5
+number_of Mode = 6
+number_of Whole = 7
+number_of WholeAbove = 8
+number_of Zero = 9
+number_of Decimal = 10
+number_of Probability = 11
+number_of GeParts = 12
+number_of GeZero = 13
+number_of Reorder = 14
+number_of Colon = 15
+number_of Window = 16
+number_of KillParts = 17
+number_of KillStyle = 18
+number_of Entries = 19
+number_of OtherMode = 20
+number_of Instant = 21
+number_of Length = 22
+number_of Memory = 23
+number_of Capacity = 24
+number_of Counter = 25
+number_of Keeping = 26
+number_of Due = 27
+number_of Full = 28
+number_of Settings = 29
+
+-- the refusal with this number, or that none has it
+abbrev pub Numbers : ℕ → Result Refusal UnknownRefusal → Type 0
+Numbers number r = MatchResult r (λ refusal. number_of refusal ≡ number) (λ e. (e.0 ≡ number) × ((number ≡ 0) ⊎ (29 < number)))
 
 -- a text that is too long
 abbrev pub refused_text_length : ℕ

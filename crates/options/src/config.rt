@@ -4,35 +4,21 @@ ghost use Rattle.options.specs.Config.{default_direction, default_config};
 
 use crate::mode::Mode;
 use numbers::MAX_ENTRIES;
-use settings::{GeOption, TcpKill, Window, no_kill, no_window};
-
-// A rate in bits a second, where there is one.
-#[derive(Clone, Copy)]
-pub enum RateOption {
-    Absent,
-    Present(u64),
-}
-
-// The longest datagram that passes, where there is such a limit.
-#[derive(Clone, Copy)]
-pub enum MtuOption {
-    Absent,
-    Present(usize),
-}
+use settings::{Ge, TcpKill, Window, no_kill, no_window};
 
 // What a direction does to its packets; of the two lists only the counted entries are settings.
 #[derive(Clone, Copy)]
 pub struct DirectionConfig {
     pub loss: f64,
-    pub ge: GeOption,
+    pub ge: Option<Ge>,
     pub delay_ms: f64,
     pub jitter_ms: f64,
     pub reorder_p: f64,
     pub reorder_delay_ms: f64,
     pub duplicate_p: f64,
-    pub rate_bps: RateOption,
+    pub rate_bps: Option<u64>,
     pub rate_burst_bytes: u64,
-    pub mtu: MtuOption,
+    pub mtu: Option<usize>,
     pub blackouts: [Window; MAX_ENTRIES],
     pub blackout_count: usize,
     pub nat_change_every_ms: u64,
@@ -42,26 +28,25 @@ pub struct DirectionConfig {
 
 impl DirectionConfig {
     // A direction that changes nothing.
+    #[tactic(auto, using(numbers::specs::Laws::Literals::zero_is), unfolding(crate::specs::Config::default_direction, crate::specs::Config::direction_with))]
     pub fn default() -> DirectionConfig
         ensures { result ≡ default_direction }
     {
-        let window = no_window();
-        let kill = no_kill();
         DirectionConfig {
             loss: 0.0,
-            ge: GeOption::Absent,
+            ge: None,
             delay_ms: 0.0,
             jitter_ms: 0.0,
             reorder_p: 0.0,
             reorder_delay_ms: 0.0,
             duplicate_p: 0.0,
-            rate_bps: RateOption::Absent,
+            rate_bps: None,
             rate_burst_bytes: 0,
-            mtu: MtuOption::Absent,
-            blackouts: [window; MAX_ENTRIES],
+            mtu: None,
+            blackouts: [no_window(); MAX_ENTRIES],
             blackout_count: 0,
             nat_change_every_ms: 0,
-            tcp_kills: [kill; MAX_ENTRIES],
+            tcp_kills: [no_kill(); MAX_ENTRIES],
             tcp_kill_count: 0,
         }
     }
@@ -87,19 +72,18 @@ pub struct Config {
 
 impl Config {
     // The settings of a text without arguments.
+    #[tactic(auto, unfolding(crate::specs::Config::default_config))]
     pub fn default() -> Config
         ensures { result ≡ default_config }
     {
-        let c2s = DirectionConfig::default();
-        let s2c = DirectionConfig::default();
         Config {
             mode: Mode::Udp,
             seed: DEFAULT_SEED,
             duration_ms: 0,
             verbose: false,
             queue_cap: DEFAULT_QUEUE_CAP as usize,
-            c2s,
-            s2c,
+            c2s: DirectionConfig::default(),
+            s2c: DirectionConfig::default(),
         }
     }
 }

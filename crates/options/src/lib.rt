@@ -7,14 +7,12 @@ mod direction;
 mod limits;
 mod losses;
 mod mode;
-mod outcome;
 mod parse;
 mod scalars;
 mod schedules;
 
-pub use config::{Config, DirectionConfig, MtuOption, RateOption};
+pub use config::{Config, DirectionConfig};
 pub use limits::default_burst;
 pub use mode::Mode;
-pub use outcome::{Outcome, Parsed};
 pub use parse::parse_config;
-pub use settings::{Ge, GeOption, KillStyle, TcpKill, Window};
+pub use settings::{Ge, KillStyle, TcpKill, Window};

@@ -2,24 +2,24 @@
 ghost use Rattle.std.specs.Prelude.{◌≡◌};
 ghost use Rattle.options.specs.Directions.{losses_of};
 
-use settings::{GeOption, Kind, earlier_of, float, ge_at, refusal, setting_at};
+use args::last_of;
+use numbers::Refusal;
+use settings::Ge;
+use values::parse_prob;
 
 #[derive(Clone, Copy)]
 pub struct Losses {
     pub loss: f64,
-    pub ge: GeOption,
-    pub refusal: u32,
+    pub ge: Option<Ge>,
 }
 
-pub fn losses_of(text: &[u8], prefix: &[u8]) -> Losses
+#[tactic(auto, using(numbers::specs::Laws::Literals::zero_is), unfolding(crate::specs::Directions::losses_of))]
+pub fn losses_of(text: &[u8], prefix: &[u8]) -> Result<Losses, Refusal>
     ensures { result ≡ losses_of text.now prefix.now }
 {
-    let loss = setting_at(text, prefix, b"loss", Kind::Probability);
-    let read = ge_at(text, prefix, b"ge");
-    let ge = read.ge;
-    Losses {
-        loss: float(loss),
-        ge,
-        refusal: earlier_of(refusal(loss), read.refusal),
-    }
+    let loss = last_of(text, prefix, b"loss").map_or(Ok(0.0), |v| parse_prob(v))?;
+    let ge = last_of(text, prefix, b"ge")
+        .map(|v| Ge::parse(v))
+        .transpose()?;
+    Ok(Losses { loss, ge })
 }

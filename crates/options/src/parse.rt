@@ -1,15 +1,12 @@
 // The whole option text.
 ghost use Rattle.std.specs.Prelude.{◌≡◌};
-ghost use Rattle.options.specs.Parse.{any_high, unclosed_of, text_refusal_of, refused_with, configured_of, parse_of};
+ghost use Rattle.options.specs.Parse.{any_high, unclosed_of, judged_text_of, config_of, parse_of};
 
 use crate::config::Config;
-use crate::direction::{Directed, direction_of};
+use crate::direction::direction_of;
 use crate::mode::other_mode;
-use crate::outcome::{Outcome, Parsed};
-use crate::scalars::{LineScalars, line_scalars};
-use args::refusal_of;
-use numbers::{REFUSED_BYTE, REFUSED_TEXT_END, REFUSED_TEXT_LENGTH};
-use settings::earlier_of;
+use crate::scalars::line_scalars;
+use numbers::Refusal;
 
 // The longest option text in bytes.
 const MOST_BYTES: usize = 16384;
@@ -17,87 +14,63 @@ const MOST_BYTES: usize = 16384;
 fn any_high(s: &[u8]) -> bool
     ensures { result ≡ any_high s.now }
 {
-    let mut i: usize = 0;
-    while i < s.len() {
-        if 127 < s[i] {
-            return true;
-        }
-        i += 1;
-    }
-    false
+    s.iter().any(|b| *b > 127)
 }
 
+#[tactic(auto, unfolding(crate::specs::Parse::unclosed_of))]
 fn unclosed(s: &[u8]) -> bool
     ensures { result ≡ unclosed_of s.now }
 {
     let n = s.len();
-    if 0 < n { s[n - 1] != 0 } else { false }
+    n > 0 && s[n - 1] != 0
 }
 
-// 0, or the refusal of the text as bytes and of its argument list.
-fn text_refusal(text: &[u8]) -> u32
-    ensures { result ≡ text_refusal_of text.now }
+// Judges the text as bytes, and then its argument list.
+#[tactic(auto, unfolding(crate::specs::Parse::judged_text_of))]
+fn judged_text(text: &[u8]) -> Result<(), Refusal>
+    ensures { result ≡ judged_text_of text.now }
 {
-    let n = text.len();
-    if MOST_BYTES < n {
-        return REFUSED_TEXT_LENGTH;
+    if text.len() > MOST_BYTES {
+        return Err(Refusal::TextLength);
     }
     if unclosed(text) {
-        return REFUSED_TEXT_END;
+        return Err(Refusal::TextEnd);
     }
     if any_high(text) {
-        return REFUSED_BYTE;
+        return Err(Refusal::Byte);
     }
-    refusal_of(text)
+    args::check(text)
 }
 
-fn refused_with(refusal: u32) -> Parsed
-    ensures { result ≡ refused_with refusal }
+// The settings that a text gives, or its first refusal.
+#[tactic(auto, unfolding(crate::specs::Parse::config_of))]
+fn config_of(text: &[u8]) -> Result<Config, Refusal>
+    ensures { result ≡ config_of text.now }
 {
-    let config = Config::default();
-    Parsed {
-        config,
-        outcome: Outcome::Refused(refusal),
-    }
+    judged_text(text)?;
+    let line = line_scalars(text)?;
+    let c2s = direction_of(text, b"c2s-")?;
+    let s2c = direction_of(text, b"s2c-")?;
+    other_mode(line.mode, &c2s)?;
+    other_mode(line.mode, &s2c)?;
+    Ok(Config {
+        mode: line.mode,
+        seed: line.seed,
+        duration_ms: line.duration_ms,
+        verbose: line.verbose,
+        queue_cap: line.queue_cap,
+        c2s,
+        s2c,
+    })
 }
 
-// The settings of a text whose parts were read, or their first refusal.
-fn configured(s: LineScalars, c2s: Directed, s2c: Directed) -> Parsed
-    ensures { result ≡ configured_of s c2s s2c }
-{
-    let mode = s.mode;
-    let modes = earlier_of(other_mode(mode, c2s), other_mode(mode, s2c));
-    let directions = earlier_of(c2s.refusal, earlier_of(s2c.refusal, modes));
-    let refusal = earlier_of(s.refusal, directions);
-    if refusal != 0 {
-        return refused_with(refusal);
-    }
-    let client = c2s.config;
-    let server = s2c.config;
-    Parsed {
-        config: Config {
-            mode,
-            seed: s.seed,
-            duration_ms: s.duration_ms,
-            verbose: s.verbose,
-            queue_cap: s.queue_cap,
-            c2s: client,
-            s2c: server,
-        },
-        outcome: Outcome::Taken,
-    }
-}
-
-// The settings that a text of any bytes gives, or the number of its refusal with `Config::default`.
-pub fn parse_config(text: &[u8]) -> Parsed
+// The settings that a text of any bytes gives; of a text that is refused `Config::default`, beside the refusal.
+#[tactic(auto, unfolding(crate::specs::Parse::parse_of))]
+pub fn parse_config(text: &[u8]) -> (Config, Result<(), Refusal>)
     ensures { result ≡ parse_of text.now }
 {
-    let refusal = text_refusal(text);
-    if refusal != 0 {
-        return refused_with(refusal);
+    match config_of(text) {
+        Ok(config) => (config, Ok(())),
+        Err(refusal) => (Config::default(), Err(refusal)),
     }
-    let scalars = line_scalars(text);
-    let c2s = direction_of(text, b"c2s-");
-    let s2c = direction_of(text, b"s2c-");
-    configured(scalars, c2s, s2c)
 }

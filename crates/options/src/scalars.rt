@@ -1,13 +1,12 @@
 // The options that stand for the whole line.
 ghost use Rattle.std.specs.Prelude.{◌≡◌};
-ghost use Rattle.options.specs.Scalars.{yes_of, verbose_of, line_scalars_of};
+ghost use Rattle.options.specs.Scalars.{yes_of, verbose_of, mode_and_seed_of, duration_of, queue_cap_of, line_scalars_of};
 
 use crate::config::{DEFAULT_QUEUE_CAP, DEFAULT_SEED};
-use crate::limits::size;
-use crate::mode::{Mode, mode_at};
-use args::{Found, has_flag, last_of};
-use settings::{Kind, earlier_of, refusal, setting_at, whole};
-use values::{is_same, part};
+use crate::mode::Mode;
+use args::{has_flag, last_of};
+use numbers::Refusal;
+use values::{parse_bounded, parse_positive, parse_u64};
 
 #[derive(Clone, Copy)]
 pub struct LineScalars {
@@ -16,55 +15,69 @@ pub struct LineScalars {
     pub duration_ms: u64,
     pub queue_cap: usize,
     pub verbose: bool,
-    pub refusal: u32,
 }
 
 // Whether a value of verbose turns it on.
 fn says_yes(v: &[u8]) -> bool
     ensures { result ≡ yes_of v.now }
 {
-    if is_same(v, b"1") {
+    if v == b"1".as_slice() {
         return true;
     }
-    if is_same(v, b"true") {
+    if v == b"true".as_slice() {
         return true;
     }
-    if is_same(v, b"yes") {
+    if v == b"yes".as_slice() {
         return true;
     }
-    is_same(v, b"on")
+    v == b"on".as_slice()
 }
 
 // The bare flag wins over values.
+#[tactic(auto, unfolding(crate::specs::Scalars::verbose_of))]
 fn verbose_at(text: &[u8]) -> bool
     ensures { result ≡ verbose_of text.now }
 {
-    if has_flag(text) {
-        return true;
-    }
-    let found = last_of(text, b"", b"verbose");
-    match found {
-        Found::Nothing => false,
-        Found::At(at, len) => says_yes(part(text, at, len)),
-    }
+    has_flag(text) || last_of(text, b"", b"verbose").is_some_and(|v| says_yes(v))
 }
 
-pub fn line_scalars(text: &[u8]) -> LineScalars
+// The mode and the seed.
+#[tactic(auto, unfolding(crate::specs::Scalars::mode_and_seed_of))]
+fn mode_and_seed(text: &[u8]) -> Result<(Mode, u64), Refusal>
+    ensures { result ≡ mode_and_seed_of text.now }
+{
+    let mode = last_of(text, b"", b"mode").map_or(Ok(Mode::Udp), |v| Mode::parse(v))?;
+    let seed = last_of(text, b"", b"seed").map_or(Ok(DEFAULT_SEED), |v| parse_u64(v))?;
+    Ok((mode, seed))
+}
+
+#[tactic(auto, unfolding(crate::specs::Scalars::duration_of))]
+fn duration_ms(text: &[u8]) -> Result<u64, Refusal>
+    ensures { result ≡ duration_of text.now }
+{
+    last_of(text, b"", b"duration-ms").map_or(Ok(0), |v| parse_bounded(v))
+}
+
+// The capacity that a host is told.
+#[tactic(auto, unfolding(crate::specs::Scalars::queue_cap_of))]
+fn queue_cap(text: &[u8]) -> Result<u64, Refusal>
+    ensures { result ≡ queue_cap_of text.now }
+{
+    last_of(text, b"", b"queue-cap").map_or(Ok(DEFAULT_QUEUE_CAP), |v| parse_positive(v))
+}
+
+#[tactic(auto, unfolding(crate::specs::Scalars::line_scalars_of))]
+pub fn line_scalars(text: &[u8]) -> Result<LineScalars, Refusal>
     ensures { result ≡ line_scalars_of text.now }
 {
-    let read = mode_at(text);
-    let seed = setting_at(text, b"", b"seed", Kind::Seed);
-    let duration = setting_at(text, b"", b"duration-ms", Kind::Count);
-    let cap = setting_at(text, b"", b"queue-cap", Kind::Positive);
-    let verbose = verbose_at(text);
-    let mode = read.mode;
-    let last = earlier_of(refusal(duration), refusal(cap));
-    LineScalars {
+    let (mode, seed) = mode_and_seed(text)?;
+    let duration_ms = duration_ms(text)?;
+    let cap = queue_cap(text)?;
+    Ok(LineScalars {
         mode,
-        seed: whole(seed, DEFAULT_SEED),
-        duration_ms: whole(duration, 0),
-        queue_cap: size(whole(cap, DEFAULT_QUEUE_CAP)),
-        verbose,
-        refusal: earlier_of(read.refusal, earlier_of(refusal(seed), last)),
-    }
+        seed,
+        duration_ms,
+        queue_cap: cap as usize,
+        verbose: verbose_at(text),
+    })
 }

@@ -2,36 +2,31 @@
 ghost use Rattle.std.specs.Prelude.{◌≡◌};
 ghost use Rattle.options.specs.Directions.{schedules_of};
 
-use numbers::MAX_ENTRIES;
-use settings::{
-    EntryKind, Kind, TcpKill, Window, earlier_of, entries_at, refusal, setting_at, whole,
-    windows_of,
-};
+use args::last_of;
+use numbers::Refusal;
+use settings::{Entries, TcpKill, Window, entries_at};
+use values::parse_positive;
 
 #[derive(Clone, Copy)]
 pub struct Schedules {
-    pub blackouts: [Window; MAX_ENTRIES],
-    pub blackout_count: usize,
+    pub blackouts: Entries<Window>,
     pub nat_change_every_ms: u64,
-    pub tcp_kills: [TcpKill; MAX_ENTRIES],
-    pub tcp_kill_count: usize,
-    pub refusal: u32,
+    pub tcp_kills: Entries<TcpKill>,
 }
 
-pub fn schedules_of(text: &[u8], prefix: &[u8]) -> Schedules
+#[tactic(auto, unfolding(crate::specs::Directions::schedules_of))]
+pub fn schedules_of(text: &[u8], prefix: &[u8]) -> Result<Schedules, Refusal>
     ensures { result ≡ schedules_of text.now prefix.now }
 {
-    let blackout = entries_at(text, prefix, b"blackout", EntryKind::Blackout);
-    let nat = setting_at(text, prefix, b"nat-change-every-ms", Kind::Positive);
-    let kill = entries_at(text, prefix, b"kill", EntryKind::Kill);
-    let holding = blackout.kills;
-    let tcp_kills = kill.kills;
-    Schedules {
-        blackouts: windows_of(holding),
-        blackout_count: blackout.count,
-        nat_change_every_ms: whole(nat, 0),
+    let blackouts = entries_at(text, prefix, b"blackout")?;
+    let nat_change_every_ms = last_of(text, prefix, b"nat-change-every-ms").map_or(
+        Ok(0),
+        |v| parse_positive(v),
+    )?;
+    let tcp_kills = entries_at(text, prefix, b"kill")?;
+    Ok(Schedules {
+        blackouts,
+        nat_change_every_ms,
         tcp_kills,
-        tcp_kill_count: kill.count,
-        refusal: earlier_of(blackout.refusal, earlier_of(refusal(nat), kill.refusal)),
-    }
+    })
 }

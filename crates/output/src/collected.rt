@@ -1,6 +1,6 @@
 // Text that is collected in a lent buffer, so that one call writes many words. `at` says how many bytes of `out`
 // are collected and not yet written; each function returns that number as it is then.
-use crate::STDOUT_FILENO;
+use crate::direct::STDOUT_FILENO;
 
 // A word that does not fit behind what is collected is written at once, after it.
 pub fn text(out: &mut [u8], at: usize, word: &[u8]) -> usize {

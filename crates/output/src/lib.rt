@@ -1,51 +1,12 @@
-// Text on standard output: written at once here, or collected first (`collected`).
+// What the programs' words need beyond the standard library: floats by their bits, and answers that may be refusals. The
+// programs that are still in the older form write at once (`direct`) or collect first (`collected`).
 #![tactic(auto)]
 
+mod answered;
+mod bits;
 pub mod collected;
+mod direct;
 
-// The number of standard output.
-const STDOUT_FILENO: i32 = 1;
-
-pub fn text(word: &[u8]) {
-    io::write_all(STDOUT_FILENO, word);
-}
-
-// A single byte.
-pub fn byte(letter: u8) {
-    let word = [letter];
-    text(&word);
-}
-
-pub fn end() {
-    text(b"\n");
-}
-
-pub fn decimal(n: u64) {
-    io::print_decimal(STDOUT_FILENO, n);
-}
-
-// A blank and the number in decimal.
-pub fn count(n: u64) {
-    text(b" ");
-    decimal(n);
-}
-
-// A blank and 16 hexadecimal digits.
-pub fn hex(n: u64) {
-    text(b" ");
-    io::print_hex(STDOUT_FILENO, n, 16);
-}
-
-// A blank and the float's bit pattern, or the word nan.
-pub fn float(x: f64) {
-    let mut space = [0u8; 17];
-    let word: &mut [u8] = &mut space;
-    let blank = collected::text(word, 0, b" ");
-    let all = collected::float(word, blank, x);
-    collected::flush(word, all);
-}
-
-// A blank and 1 or 0.
-pub fn flag(b: bool) {
-    count(b as u64);
-}
+pub use answered::Answered;
+pub use bits::Bits;
+pub use direct::{byte, count, decimal, end, flag, float, hex, text};

@@ -1,4 +1,1 @@
 pub mod RefusalSteps
-pub mod CreationSteps
-pub mod PushSteps
-pub mod ReleaseSteps

@@ -3,38 +3,38 @@ ghost use Rattle.std.specs.Prelude.{◌≡◌};
 ghost use Rattle.queue.specs.Refusals.{due_refusal};
 ghost use Rattle.queue.specs.Calls.{due_at, next_due_of};
 
-use crate::answers::DueAnswer;
 use crate::queue::ImpairQueue;
-use numbers::REFUSED_KEEPING;
+use numbers::Refusal;
 
 impl ImpairQueue {
-    // The refusal that meets the question, or 0, given the lengths of the two tables that it reads.
-    fn due_refusal(self, win: usize, dues: usize) -> u32
+    // The refusal that meets the question, given the lengths of the two tables that it reads.
+    #[tactic(auto, unfolding(crate::specs::Refusals::due_refusal))]
+    fn judge_next_due(self, win: usize, dues: usize) -> Result<(), Refusal>
         ensures { result ≡ due_refusal self win dues }
     {
-        self.state_refusal((self.cap as usize <= win) & (self.cap as usize <= dues))
+        let entries = self.cap as usize;
+        self.judge_state((entries <= win) & (entries <= dues))
     }
 
     // The due of the slot at the root.
-    fn due_at(self, dues: &[f64], root: u32) -> DueAnswer
+    #[tactic(auto, unfolding(crate::specs::Calls::due_at))]
+    fn due_at(self, dues: &[f64], root: u32) -> Result<Option<f64>, Refusal>
         ensures { result ≡ due_at self dues.now root }
     {
         if self.leaves <= root {
-            return DueAnswer::Refused(REFUSED_KEEPING);
+            return Err(Refusal::Keeping);
         }
-        DueAnswer::Due(tables::get_f64(dues, root as usize))
+        Ok(Some(tables::get(dues, root as usize, 0.0)))
     }
 
     // The least due of the held copies, that none is held, or a refusal by 23, 25 or 26.
-    pub fn next_due(self, win: &[u32], dues: &[f64]) -> DueAnswer
+    #[tactic(auto, unfolding(crate::specs::Calls::next_due_of))]
+    pub fn next_due(self, win: &[u32], dues: &[f64]) -> Result<Option<f64>, Refusal>
         ensures { result ≡ next_due_of self win.now dues.now }
     {
-        let number = self.due_refusal(win.len(), dues.len());
-        if number != 0 {
-            return DueAnswer::Refused(number);
-        }
+        self.judge_next_due(win.len(), dues.len())?;
         if self.held == 0 {
-            return DueAnswer::Empty;
+            return Ok(None);
         }
         self.due_at(dues, tournament::least(win, self.leaves))
     }

@@ -8,12 +8,13 @@ mod push;
 mod queue;
 mod refusal;
 mod release;
-mod row;
+mod rows;
+mod sizes;
 mod store;
 
-pub use answers::{
-    CreateAnswer, Created, DrainAnswer, Drained, DueAnswer, PushAnswer, Pushed, Queued,
-    ReleaseAnswer, Released,
-};
+pub use answers::{Entered, Queued};
 pub use queue::ImpairQueue;
+pub use rows::{Packet, Rows, RowsMut};
+pub use sizes::Sizes;
 pub use store::payload;
+pub use tournament::{Tree, TreeMut};

@@ -1,66 +1,33 @@
 // How the copies of a packet enter.
 ghost use Rattle.std.specs.Prelude.{◌≡◌, ◌+◌, ◌<◌, ◌≤◌, ◌^◌, length};
-ghost use Rattle.queue.specs.Tables.{tables, after};
-ghost use Rattle.queue.specs.Refusals.{slot_width, push_refusal};
-ghost use Rattle.queue.specs.Calls.{next_slot, one_more, not_pushed, told_of, enter_copy_of, enter_copies_of, push_of};
+ghost use Rattle.tournament.specs.Trees.{SameTables};
+ghost use Rattle.queue.specs.Tables.{after};
+ghost use Rattle.queue.specs.Lent.{entry_tables, SameRows};
+ghost use Rattle.queue.specs.Refusals.{slot_width};
+ghost use Rattle.queue.specs.Calls.{told_by, next_slot, one_more, enter_copy_of, enter_copies_of, push_of};
 
-use crate::answers::{PushAnswer, Pushed};
+use crate::answers::Entered;
 use crate::queue::ImpairQueue;
-use crate::store::SLOT_WIDTH;
-use crate::{refusal, row};
-use numbers::REFUSED_KEEPING;
+use crate::rows::{Packet, RowsMut};
+use crate::sizes::Sizes;
+use numbers::Refusal;
+use tournament::TreeMut;
 
 // The copy id of the second copy.
 const SECOND_COPY_ID: u32 = 1;
 
-// The state after a copy, and whether its slot was in range, so that it entered.
-#[derive(Clone, Copy)]
-pub(crate) struct CopyEntered {
-    pub queue: ImpairQueue,
-    pub fits: bool,
-}
-
-// A push that is refused.
-fn not_pushed(queue: ImpairQueue, number: u32) -> Pushed
-    ensures { result ≡ not_pushed queue number }
+// The answer after the last copy, of so many: 26 where it did not enter.
+#[tactic(auto, unfolding(crate::specs::Calls::told_by))]
+fn told(last: Result<(), Refusal>, seq: u64, copies: u32) -> Result<Entered, Refusal>
+    ensures { result ≡ told_by last seq copies }
 {
-    Pushed {
-        queue,
-        answer: PushAnswer::Refused(number),
-    }
-}
-
-// What a push answers after its last copy, of so many.
-fn told(last: CopyEntered, seq: u64, copies: u32) -> Pushed
-    ensures { result ≡ told_of last seq copies }
-{
-    let after = last.queue;
-    if !last.fits {
-        return not_pushed(after, REFUSED_KEEPING);
-    }
-    Pushed {
-        queue: after,
-        answer: PushAnswer::Entered { seq, copies },
-    }
+    last?;
+    Ok(Entered { seq, copies })
 }
 
 impl ImpairQueue {
-    // The refusal that meets a push of so many bytes, or 0, given whether the lent memory has room.
-    fn push_refusal(self, memory: bool, due: f64, arrival: f64, length: usize) -> u32
-        ensures { result ≡ push_refusal slot_width self memory due arrival length }
-    {
-        refusal::refusal(
-            memory,
-            numbers::is_instant(arrival),
-            length <= SLOT_WIDTH as usize,
-            due == due,
-            numbers::is_counter(self.next_seq),
-            self.in_keeping(),
-            self.held != self.cap,
-        )
-    }
-
     // The slot that the next copy takes: the last that a copy left, or the first that was never used.
+    #[tactic(auto, unfolding(crate::specs::Calls::next_slot))]
     fn next_slot(self, free: &[u32]) -> u32
         requires { self.held ≤ self.opened }
         ensures { result ≡ next_slot self free.now }
@@ -68,7 +35,7 @@ impl ImpairQueue {
         if self.held == self.opened {
             self.opened
         } else {
-            tables::get_u32(free, (self.opened - self.held - 1) as usize)
+            tables::get(free, (self.opened - self.held - 1) as usize, 0)
         }
     }
 
@@ -83,144 +50,79 @@ impl ImpairQueue {
             held,
             next_seq: self.next_seq + 1,
             leaves,
-            opened: if self.opened < held {
-                held
-            } else {
-                self.opened
-            },
+            opened: self.opened.max(held),
         }
     }
 
-    // One copy enters its slot with the next seq, unless the slot is out of range.
+    // One copy enters its slot with the next seq, or 26 where the slot is out of range.
     fn enter_copy(
         self,
-        win: &mut [u32],
+        tree: &mut TreeMut<'_>,
         free: &[u32],
-        dues: &mut [f64],
-        seqs: &mut [u64],
-        arrivals: &mut [f64],
-        routes: &mut [u64],
-        copy_ids: &mut [u32],
-        lengths: &mut [u32],
-        store: &mut [u8],
-        due: f64,
-        arrival: f64,
-        route: u64,
-        copy_id: u32,
+        rows: &mut RowsMut<'_>,
+        packet: Packet,
         bytes: &[u8],
-    ) -> CopyEntered
+    ) -> (ImpairQueue, Result<(), Refusal>)
         requires { (self.held ≤ self.opened) × (self.held + 1 < 2 ^ 32) × (self.next_seq + 1 < 2 ^ 64) × (length bytes.now < 2 ^ 32) }
-        ensures { after result (tables win.new free.now dues.new seqs.new arrivals.new routes.new copy_ids.new lengths.new store.new) ≡ enter_copy_of slot_width self (tables win.old free.now dues.old seqs.old arrivals.old routes.old copy_ids.old lengths.old store.old) due arrival route copy_id bytes.now }
+        ensures counted { (result.0.held ≤ result.0.opened) × (result.0.held ≤ self.held + 1) × (result.0.next_seq ≤ self.next_seq + 1) }
+        ensures entered { after result (entry_tables tree.new free.now rows.new) ≡ enter_copy_of slot_width self (entry_tables tree.old free.now rows.old) packet.due_ms packet.arrival_ms packet.route packet.copy_id bytes.now }
+        ensures same { SameTables tree.old tree.new × SameRows rows.old rows.new }
     {
         let slot = self.next_slot(free);
         if !tournament::fits(self.cap, self.leaves, slot) {
-            return CopyEntered {
-                queue: self,
-                fits: false,
-            };
+            return (self, Err(Refusal::Keeping));
         }
         let seq = self.next_seq;
-        let leaves = tournament::enter(win, dues, seqs, self.cap, self.leaves, slot, due, seq);
-        row::write(
-            arrivals, routes, copy_ids, lengths, store, slot, arrival, route, copy_id, bytes,
-        );
-        CopyEntered {
-            queue: self.one_more(leaves),
-            fits: true,
-        }
+        let leaves = tree.enter(self.cap, self.leaves, slot, packet.due_ms, seq);
+        rows.write(slot, packet, bytes);
+        (self.one_more(leaves), Ok(()))
     }
 
     // The first copy enters, then a second one if the packet is duplicated and the queue is not full.
     fn enter_copies(
         self,
-        win: &mut [u32],
+        tree: &mut TreeMut<'_>,
         free: &[u32],
-        dues: &mut [f64],
-        seqs: &mut [u64],
-        arrivals: &mut [f64],
-        routes: &mut [u64],
-        copy_ids: &mut [u32],
-        lengths: &mut [u32],
-        store: &mut [u8],
-        due: f64,
-        arrival: f64,
-        route: u64,
-        copy_id: u32,
-        duplicated: bool,
+        rows: &mut RowsMut<'_>,
+        packet: Packet,
         bytes: &[u8],
-    ) -> Pushed
+    ) -> (ImpairQueue, Result<Entered, Refusal>)
         requires { (self.held ≤ self.opened) × (self.held + 2 < 2 ^ 32) × (self.next_seq + 2 < 2 ^ 64) × (length bytes.now < 2 ^ 32) }
-        ensures { after result (tables win.new free.now dues.new seqs.new arrivals.new routes.new copy_ids.new lengths.new store.new) ≡ enter_copies_of slot_width self (tables win.old free.now dues.old seqs.old arrivals.old routes.old copy_ids.old lengths.old store.old) due arrival route copy_id duplicated bytes.now }
+        ensures entered { after result (entry_tables tree.new free.now rows.new) ≡ enter_copies_of slot_width self (entry_tables tree.old free.now rows.old) packet.due_ms packet.arrival_ms packet.route packet.copy_id packet.duplicated bytes.now }
+        ensures same { SameTables tree.old tree.new × SameRows rows.old rows.new }
     {
         let seq = self.next_seq;
-        let first = self.enter_copy(
-            win, free, dues, seqs, arrivals, routes, copy_ids, lengths, store, due, arrival, route,
-            copy_id, bytes,
-        );
-        let queue = first.queue;
-        let again = first.fits & duplicated & (queue.held != queue.cap);
+        let (queue, first) = self.enter_copy(tree, free, rows, packet, bytes);
+        let again = first.is_ok() & packet.duplicated & (queue.held != queue.cap);
         if !again {
-            return told(first, seq, 1);
+            return (queue, told(first, seq, 1));
         }
-        let second = queue.enter_copy(
-            win,
-            free,
-            dues,
-            seqs,
-            arrivals,
-            routes,
-            copy_ids,
-            lengths,
-            store,
-            due,
-            arrival,
-            route,
-            SECOND_COPY_ID,
-            bytes,
-        );
-        told(second, seq, 2)
+        let second = Packet {
+            copy_id: SECOND_COPY_ID,
+            ..packet
+        };
+        let (queue, last) = queue.enter_copy(tree, free, rows, second, bytes);
+        (queue, told(last, seq, 2))
     }
 
     // The copies of a packet enter: the first with the next seq and the copy id; if it is duplicated, a second with the seq after it and copy id 1, unless
     // the queue is full by then. Or a refusal by 23, 21, 22, 27, 25, 26 or 28, judged once, on the state handed in.
+    #[tactic(auto, unfolding(crate::specs::Calls::push_of, crate::specs::Refusals::memory_of))]
     pub fn push(
         self,
-        win: &mut [u32],
+        tree: &mut TreeMut<'_>,
         free: &[u32],
-        dues: &mut [f64],
-        seqs: &mut [u64],
-        arrivals: &mut [f64],
-        routes: &mut [u64],
-        copy_ids: &mut [u32],
-        lengths: &mut [u32],
-        store: &mut [u8],
-        due: f64,
-        arrival: f64,
-        route: u64,
-        copy_id: u32,
-        duplicated: bool,
+        rows: &mut RowsMut<'_>,
+        packet: Packet,
         bytes: &[u8],
-    ) -> Pushed
-        ensures { after result (tables win.new free.now dues.new seqs.new arrivals.new routes.new copy_ids.new lengths.new store.new) ≡ push_of slot_width self (tables win.old free.now dues.old seqs.old arrivals.old routes.old copy_ids.old lengths.old store.old) due arrival route copy_id duplicated bytes.now }
+    ) -> (ImpairQueue, Result<Entered, Refusal>)
+        ensures pushed { after result (entry_tables tree.new free.now rows.new) ≡ push_of slot_width self (entry_tables tree.old free.now rows.old) packet.due_ms packet.arrival_ms packet.route packet.copy_id packet.duplicated bytes.now }
+        ensures same { SameTables tree.old tree.new × SameRows rows.old rows.new }
     {
-        let memory = self.has_memory(
-            win.len(),
-            free.len(),
-            dues.len(),
-            seqs.len(),
-            arrivals.len(),
-            routes.len(),
-            copy_ids.len(),
-            lengths.len(),
-            store.len(),
-        );
-        let number = self.push_refusal(memory, due, arrival, bytes.len());
-        if number != 0 {
-            return not_pushed(self, number);
+        let memory = self.has_memory(Sizes::of(tree.shared(), free, rows.shared()));
+        if let Err(refusal) = self.judge_push(memory, packet, bytes.len()) {
+            return (self, Err(refusal));
         }
-        self.enter_copies(
-            win, free, dues, seqs, arrivals, routes, copy_ids, lengths, store, due, arrival, route,
-            copy_id, duplicated, bytes,
-        )
+        self.enter_copies(tree, free, rows, packet, bytes)
     }
 }

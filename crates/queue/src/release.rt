@@ -1,149 +1,92 @@
 // How the least copy leaves.
 ghost use Rattle.std.specs.Prelude.{◌≡◌, ◌<◌, ◌≤◌};
-ghost use Rattle.queue.specs.Tables.{tables, after};
-ghost use Rattle.queue.specs.Refusals.{slot_width, release_refusal};
+ghost use Rattle.tournament.specs.Trees.{SameTables};
+ghost use Rattle.queue.specs.Tables.{after};
+ghost use Rattle.queue.specs.Lent.{seen_tables, exit_tables};
+ghost use Rattle.queue.specs.Refusals.{slot_width};
 ghost use Rattle.queue.specs.Calls.{queued_of, one_less, left_of, release_of};
 
-use crate::answers::{Queued, ReleaseAnswer, Released};
+use crate::answers::Queued;
 use crate::queue::ImpairQueue;
-use crate::refusal;
-use numbers::REFUSED_KEEPING;
+use crate::rows::Rows;
+use crate::sizes::Sizes;
+use numbers::Refusal;
+use tournament::{Tree, TreeMut};
 
 // What a slot holds.
-fn queued(
-    dues: &[f64],
-    seqs: &[u64],
-    arrivals: &[f64],
-    routes: &[u64],
-    ids: &[u32],
-    lengths: &[u32],
-    slot: u32,
-) -> Queued
-    ensures { result ≡ queued_of dues.now seqs.now arrivals.now routes.now ids.now lengths.now slot }
+fn queued(tree: Tree<'_>, rows: Rows<'_>, slot: u32) -> Queued
+    ensures { result ≡ queued_of tree.entry.dues.now tree.entry.seqs.now rows.entry.arrivals.now rows.entry.routes.now rows.entry.copy_ids.now rows.entry.lengths.now slot }
 {
     let at = slot as usize;
     Queued {
-        due_ms: tables::get_f64(dues, at),
-        seq: tables::get_u64(seqs, at),
-        arrival_ms: tables::get_f64(arrivals, at),
-        route: tables::get_u64(routes, at),
-        copy_id: tables::get_u32(ids, at),
-        length: tables::get_u32(lengths, at) as usize,
+        due_ms: tree.due(slot),
+        seq: tree.seq(slot),
+        arrival_ms: tables::get(rows.arrivals, at, 0.0),
+        route: tables::get(rows.routes, at, 0),
+        copy_id: tables::get(rows.copy_ids, at, 0),
+        length: tables::get(rows.lengths, at, 0) as usize,
         slot,
     }
 }
 
 impl ImpairQueue {
-    // The refusal that meets a release, or 0, given whether the lent memory has room.
-    fn release_refusal(self, memory: bool, now_ms: f64) -> u32
-        ensures { result ≡ release_refusal self memory now_ms }
-    {
-        let instant = numbers::is_instant(now_ms);
-        let counter = numbers::is_counter(self.next_seq);
-        refusal::refusal(
-            memory,
-            instant,
-            true,
-            true,
-            counter,
-            self.in_keeping(),
-            true,
-        )
-    }
-
     // The state with one copy less.
     fn one_less(self) -> ImpairQueue
         requires { 0 < self.held }
         ensures { result ≡ one_less self }
     {
         ImpairQueue {
-            cap: self.cap,
             held: self.held - 1,
-            next_seq: self.next_seq,
-            leaves: self.leaves,
-            opened: self.opened,
-        }
-    }
-
-    // A release that handed out no copy.
-    fn stays(self, answer: ReleaseAnswer) -> Released
-        ensures { result ≡ (record { queue = self; answer = answer }) }
-    {
-        Released {
-            queue: self,
-            answer,
+            ..self
         }
     }
 
     // The copy in a slot leaves.
+    #[tactic(auto, unfolding(crate::specs::Calls::left_of))]
     fn release_slot(
         self,
-        win: &mut [u32],
+        tree: &mut TreeMut<'_>,
         free: &mut [u32],
-        dues: &mut [f64],
-        seqs: &mut [u64],
-        arrivals: &[f64],
-        routes: &[u64],
-        ids: &[u32],
-        lengths: &[u32],
-        store: &[u8],
+        rows: Rows<'_>,
         slot: u32,
-    ) -> Released
+    ) -> (ImpairQueue, Result<Option<Queued>, Refusal>)
         requires { (0 < self.held) × (self.held ≤ self.opened) }
-        ensures { after result (tables win.new free.new dues.new seqs.new arrivals.now routes.now ids.now lengths.now store.now) ≡ left_of self (tables win.old free.old dues.old seqs.old arrivals.now routes.now ids.now lengths.now store.now) slot }
+        ensures released { after result (exit_tables tree.new free.new rows.entry) ≡ left_of self (exit_tables tree.old free.old rows.entry) slot }
+        ensures same { SameTables tree.old tree.new }
     {
-        let copy = queued(dues, seqs, arrivals, routes, ids, lengths, slot);
-        tables::set_u32(free, (self.opened - self.held) as usize, slot);
-        tournament::leave(win, dues, seqs, self.leaves, slot);
-        Released {
-            queue: self.one_less(),
-            answer: ReleaseAnswer::Released(copy),
-        }
+        let copy = queued(tree.shared(), rows, slot);
+        tables::set(free, (self.opened - self.held) as usize, slot);
+        tree.leave(self.leaves, slot);
+        (self.one_less(), Ok(Some(copy)))
     }
 
     // The least copy with a due of at most `now_ms` leaves; none due, or a refusal by 23, 21, 25 or 26.
+    #[tactic(auto, unfolding(crate::specs::Calls::release_of, crate::specs::Calls::due_of, crate::specs::Refusals::memory_of))]
     pub fn release(
         self,
-        win: &mut [u32],
+        tree: &mut TreeMut<'_>,
         free: &mut [u32],
-        dues: &mut [f64],
-        seqs: &mut [u64],
-        arrivals: &[f64],
-        routes: &[u64],
-        copy_ids: &[u32],
-        lengths: &[u32],
-        store: &[u8],
+        rows: Rows<'_>,
         now_ms: f64,
-    ) -> Released
-        ensures { after result (tables win.new free.new dues.new seqs.new arrivals.now routes.now copy_ids.now lengths.now store.now) ≡ release_of slot_width self (tables win.old free.old dues.old seqs.old arrivals.now routes.now copy_ids.now lengths.now store.now) now_ms }
+    ) -> (ImpairQueue, Result<Option<Queued>, Refusal>)
+        ensures released { after result (exit_tables tree.new free.new rows.entry) ≡ release_of slot_width self (exit_tables tree.old free.old rows.entry) now_ms }
+        ensures same { SameTables tree.old tree.new }
     {
-        let memory = self.has_memory(
-            win.len(),
-            free.len(),
-            dues.len(),
-            seqs.len(),
-            arrivals.len(),
-            routes.len(),
-            copy_ids.len(),
-            lengths.len(),
-            store.len(),
-        );
-        let number = self.release_refusal(memory, now_ms);
-        if number != 0 {
-            return self.stays(ReleaseAnswer::Refused(number));
+        let seen = tree.shared();
+        let memory = self.has_memory(Sizes::of(seen, free, rows));
+        if let Err(refusal) = self.judge_release(memory, now_ms) {
+            return (self, Err(refusal));
         }
         if self.held == 0 {
-            return self.stays(ReleaseAnswer::NoneDue);
+            return (self, Ok(None));
         }
-        let root = tournament::least(win, self.leaves);
+        let root = tournament::least(seen.win, self.leaves);
         if self.leaves <= root {
-            return self.stays(ReleaseAnswer::Refused(REFUSED_KEEPING));
+            return (self, Err(Refusal::Keeping));
         }
-        if tables::get_f64(dues, root as usize) <= now_ms {
-            return self.release_slot(
-                win, free, dues, seqs, arrivals, routes, copy_ids, lengths, store, root,
-            );
+        if seen.due(root) <= now_ms {
+            return self.release_slot(tree, free, rows, root);
         }
-        self.stays(ReleaseAnswer::NoneDue)
+        (self, Ok(None))
     }
 }

@@ -1,6 +1,7 @@
 // The answers of all calls as one type.
 use crate::memory::Tables;
-use queue::{CreateAnswer, DrainAnswer, DueAnswer, ImpairQueue, PushAnswer, Queued, ReleaseAnswer};
+use numbers::Refusal;
+use queue::{Entered, ImpairQueue, Queued};
 
 // Entered has the seq; Held has how many copies are held, and whether none is.
 #[derive(Clone, Copy)]
@@ -25,39 +26,39 @@ pub struct Answered {
     pub answer: Answer,
 }
 
-pub(crate) fn created(answer: CreateAnswer) -> Answer {
+pub(crate) fn created(answer: Result<(), Refusal>) -> Answer {
     match answer {
-        CreateAnswer::Created => Answer::Created,
-        CreateAnswer::Refused(n) => Answer::Refused(n),
+        Ok(()) => Answer::Created,
+        Err(refusal) => Answer::Refused(refusal.number()),
     }
 }
 
-pub(crate) fn pushed(answer: PushAnswer) -> Answer {
+pub(crate) fn pushed(answer: Result<Entered, Refusal>) -> Answer {
     match answer {
-        PushAnswer::Entered { seq, .. } => Answer::Entered(seq),
-        PushAnswer::Refused(n) => Answer::Refused(n),
+        Ok(entered) => Answer::Entered(entered.seq),
+        Err(refusal) => Answer::Refused(refusal.number()),
     }
 }
 
-pub fn released(answer: ReleaseAnswer) -> Answer {
+pub(crate) fn released(answer: Result<Option<Queued>, Refusal>) -> Answer {
     match answer {
-        ReleaseAnswer::Released(copy) => Answer::Released(copy),
-        ReleaseAnswer::NoneDue => Answer::NoneDue,
-        ReleaseAnswer::Refused(n) => Answer::Refused(n),
+        Ok(Some(copy)) => Answer::Released(copy),
+        Ok(None) => Answer::NoneDue,
+        Err(refusal) => Answer::Refused(refusal.number()),
     }
 }
 
-pub(crate) fn due(answer: DueAnswer) -> Answer {
+pub(crate) fn due(answer: Result<Option<f64>, Refusal>) -> Answer {
     match answer {
-        DueAnswer::Due(due_ms) => Answer::Due(due_ms),
-        DueAnswer::Empty => Answer::Empty,
-        DueAnswer::Refused(n) => Answer::Refused(n),
+        Ok(Some(due_ms)) => Answer::Due(due_ms),
+        Ok(None) => Answer::Empty,
+        Err(refusal) => Answer::Refused(refusal.number()),
     }
 }
 
-pub(crate) fn drained(answer: DrainAnswer) -> Answer {
+pub(crate) fn drained(answer: Result<usize, Refusal>) -> Answer {
     match answer {
-        DrainAnswer::Drained(n) => Answer::Drained(n),
-        DrainAnswer::Refused(n) => Answer::Refused(n),
+        Ok(copies) => Answer::Drained(copies),
+        Err(refusal) => Answer::Refused(refusal.number()),
     }
 }

@@ -1,9 +1,9 @@
 // Calls on a queue over the lent part of tables and store.
 use crate::answers;
 use crate::answers::{Answer, Answered};
-use crate::calls::{Call, Copy};
+use crate::calls::Call;
 use crate::memory::{Lent, Tables};
-use queue::ImpairQueue;
+use queue::{ImpairQueue, Packet, Rows, RowsMut, Tree, TreeMut};
 
 // Makes the call; `bytes` are those of a copy that is to enter.
 pub fn make(
@@ -16,7 +16,7 @@ pub fn make(
 ) -> Answered {
     match call {
         Call::Create(cap) => create(cap, tables, store, lent),
-        Call::Push(copy) => push(queue, tables, store, lent, bytes, copy),
+        Call::Push(packet) => push(queue, tables, store, lent, bytes, packet),
         Call::Release(now_ms) => release(queue, tables, store, lent, now_ms),
         Call::NextDue => stays(queue, tables, next_due(queue, tables, lent)),
         Call::Drain => drain(queue, tables),
@@ -35,148 +35,76 @@ fn stays(queue: ImpairQueue, tables: Tables, answer: Answer) -> Answered {
 
 // The creation of a queue, which no queue comes before.
 pub fn create(cap: usize, tables: Tables, store: &[u8], lent: Lent) -> Answered {
-    let win = tables.win;
-    let win_part = lent.words(&win, 1);
-    let free = tables.free;
-    let free_part = lent.words(&free, 2);
-    let dues = tables.dues;
-    let dues_part = lent.floats(&dues, 3);
-    let seqs = tables.seqs;
-    let seqs_part = lent.longs(&seqs, 4);
-    let arrivals = tables.arrivals;
-    let arrivals_part = lent.floats(&arrivals, 5);
-    let routes = tables.routes;
-    let routes_part = lent.longs(&routes, 6);
-    let ids = tables.ids;
-    let ids_part = lent.words(&ids, 7);
-    let lengths = tables.lengths;
-    let lengths_part = lent.words(&lengths, 8);
-    let made = ImpairQueue::create(
-        cap,
-        win_part,
-        free_part,
-        dues_part,
-        seqs_part,
-        arrivals_part,
-        routes_part,
-        ids_part,
-        lengths_part,
-        lent.bytes(store),
-    );
-    let queue = made.queue;
-    let answer = made.answer;
-    stays(queue, tables, answers::created(answer))
+    let tree = Tree {
+        win: lent.part(&tables.win, 1),
+        dues: lent.part(&tables.dues, 3),
+        seqs: lent.part(&tables.seqs, 4),
+    };
+    let rows = Rows {
+        arrivals: lent.part(&tables.arrivals, 5),
+        routes: lent.part(&tables.routes, 6),
+        copy_ids: lent.part(&tables.ids, 7),
+        lengths: lent.part(&tables.lengths, 8),
+        store: lent.bytes(store),
+    };
+    let (queue, made) = ImpairQueue::create(cap, tree, lent.part(&tables.free, 2), rows);
+    stays(queue, tables, answers::created(made))
 }
 
 fn push(
     queue: ImpairQueue,
-    tables: Tables,
+    mut tables: Tables,
     store: &mut [u8],
     lent: Lent,
     bytes: &[u8],
-    copy: Copy,
+    packet: Packet,
 ) -> Answered {
-    let mut win = tables.win;
-    let win_part = lent.words_mut(&mut win, 1);
-    let free = tables.free;
-    let free_part = lent.words(&free, 2);
-    let mut dues = tables.dues;
-    let dues_part = lent.floats_mut(&mut dues, 3);
-    let mut seqs = tables.seqs;
-    let seqs_part = lent.longs_mut(&mut seqs, 4);
-    let mut arrivals = tables.arrivals;
-    let arrivals_part = lent.floats_mut(&mut arrivals, 5);
-    let mut routes = tables.routes;
-    let routes_part = lent.longs_mut(&mut routes, 6);
-    let mut ids = tables.ids;
-    let ids_part = lent.words_mut(&mut ids, 7);
-    let mut lengths = tables.lengths;
-    let lengths_part = lent.words_mut(&mut lengths, 8);
-    let pushed = queue.push(
-        win_part,
-        free_part,
-        dues_part,
-        seqs_part,
-        arrivals_part,
-        routes_part,
-        ids_part,
-        lengths_part,
-        lent.bytes_mut(store),
-        copy.due_ms,
-        copy.arrival_ms,
-        copy.route,
-        copy.copy_id,
-        false,
-        bytes,
-    );
-    let after = pushed.queue;
-    let answer = pushed.answer;
-    let left = Tables {
-        win,
-        free,
-        dues,
-        seqs,
-        arrivals,
-        routes,
-        ids,
-        lengths,
+    let mut tree = TreeMut {
+        win: lent.part_mut(&mut tables.win, 1),
+        dues: lent.part_mut(&mut tables.dues, 3),
+        seqs: lent.part_mut(&mut tables.seqs, 4),
     };
-    stays(after, left, answers::pushed(answer))
+    let mut rows = RowsMut {
+        arrivals: lent.part_mut(&mut tables.arrivals, 5),
+        routes: lent.part_mut(&mut tables.routes, 6),
+        copy_ids: lent.part_mut(&mut tables.ids, 7),
+        lengths: lent.part_mut(&mut tables.lengths, 8),
+        store: lent.bytes_mut(store),
+    };
+    let free = lent.part(&tables.free, 2);
+    let (after, pushed) = queue.push(&mut tree, free, &mut rows, packet, bytes);
+    stays(after, tables, answers::pushed(pushed))
 }
 
-fn release(queue: ImpairQueue, tables: Tables, store: &[u8], lent: Lent, now_ms: f64) -> Answered {
-    let mut win = tables.win;
-    let win_part = lent.words_mut(&mut win, 1);
-    let mut free = tables.free;
-    let free_part = lent.words_mut(&mut free, 2);
-    let mut dues = tables.dues;
-    let dues_part = lent.floats_mut(&mut dues, 3);
-    let mut seqs = tables.seqs;
-    let seqs_part = lent.longs_mut(&mut seqs, 4);
-    let arrivals = tables.arrivals;
-    let arrivals_part = lent.floats(&arrivals, 5);
-    let routes = tables.routes;
-    let routes_part = lent.longs(&routes, 6);
-    let ids = tables.ids;
-    let ids_part = lent.words(&ids, 7);
-    let lengths = tables.lengths;
-    let lengths_part = lent.words(&lengths, 8);
-    let released = queue.release(
-        win_part,
-        free_part,
-        dues_part,
-        seqs_part,
-        arrivals_part,
-        routes_part,
-        ids_part,
-        lengths_part,
-        lent.bytes(store),
-        now_ms,
-    );
-    let after = released.queue;
-    let answer = released.answer;
-    let left = Tables {
-        win,
-        free,
-        dues,
-        seqs,
-        arrivals,
-        routes,
-        ids,
-        lengths,
+fn release(
+    queue: ImpairQueue,
+    mut tables: Tables,
+    store: &[u8],
+    lent: Lent,
+    now_ms: f64,
+) -> Answered {
+    let mut tree = TreeMut {
+        win: lent.part_mut(&mut tables.win, 1),
+        dues: lent.part_mut(&mut tables.dues, 3),
+        seqs: lent.part_mut(&mut tables.seqs, 4),
     };
-    stays(after, left, answers::released(answer))
+    let rows = Rows {
+        arrivals: lent.part(&tables.arrivals, 5),
+        routes: lent.part(&tables.routes, 6),
+        copy_ids: lent.part(&tables.ids, 7),
+        lengths: lent.part(&tables.lengths, 8),
+        store: lent.bytes(store),
+    };
+    let free = lent.part_mut(&mut tables.free, 2);
+    let (after, released) = queue.release(&mut tree, free, rows, now_ms);
+    stays(after, tables, answers::released(released))
 }
 
 fn next_due(queue: ImpairQueue, tables: Tables, lent: Lent) -> Answer {
-    let win = tables.win;
-    let dues = tables.dues;
-    answers::due(queue.next_due(lent.words(&win, 1), lent.floats(&dues, 3)))
+    answers::due(queue.next_due(lent.part(&tables.win, 1), lent.part(&tables.dues, 3)))
 }
 
 fn drain(queue: ImpairQueue, tables: Tables) -> Answered {
-    let drained = queue.drain();
-    let after = drained.queue;
-    let answer = drained.answer;
-    stays(after, tables, answers::drained(answer))
+    let (after, drained) = queue.drain();
+    stays(after, tables, answers::drained(drained))
 }

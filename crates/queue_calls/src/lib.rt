@@ -7,8 +7,8 @@ mod lent;
 mod memory;
 mod words;
 
-pub use answers::{Answer, Answered, released};
-pub use calls::{Call, Copy};
+pub use answers::{Answer, Answered};
+pub use calls::Call;
 pub use lent::{create, make};
 pub use memory::{Lent, Tables};
 pub use words::say;

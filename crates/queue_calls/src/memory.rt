@@ -65,17 +65,11 @@ impl Lent {
     }
 
     // The lent part of a table; none of it where it has fewer entries.
-    pub(crate) fn words(self, t: &[u32], table: u32) -> &[u32] {
-        let start = self.start as usize;
-        let end = self.end(table);
-        if end <= t.len() {
-            &t[start..end]
-        } else {
-            &t[..0]
-        }
+    pub(crate) fn part<T>(self, t: &[T], table: u32) -> &[T] {
+        t.get(self.start as usize..self.end(table)).unwrap_or(&[])
     }
 
-    pub(crate) fn words_mut(self, t: &mut [u32], table: u32) -> &mut [u32] {
+    pub(crate) fn part_mut<T>(self, t: &mut [T], table: u32) -> &mut [T] {
         let start = self.start as usize;
         let end = self.end(table);
         if end <= t.len() {
@@ -85,54 +79,11 @@ impl Lent {
         }
     }
 
-    pub(crate) fn longs(self, t: &[u64], table: u32) -> &[u64] {
-        let start = self.start as usize;
-        let end = self.end(table);
-        if end <= t.len() {
-            &t[start..end]
-        } else {
-            &t[..0]
-        }
-    }
-
-    pub(crate) fn longs_mut(self, t: &mut [u64], table: u32) -> &mut [u64] {
-        let start = self.start as usize;
-        let end = self.end(table);
-        if end <= t.len() {
-            &mut t[start..end]
-        } else {
-            &mut t[..0]
-        }
-    }
-
-    pub(crate) fn floats(self, t: &[f64], table: u32) -> &[f64] {
-        let start = self.start as usize;
-        let end = self.end(table);
-        if end <= t.len() {
-            &t[start..end]
-        } else {
-            &t[..0]
-        }
-    }
-
-    pub(crate) fn floats_mut(self, t: &mut [f64], table: u32) -> &mut [f64] {
-        let start = self.start as usize;
-        let end = self.end(table);
-        if end <= t.len() {
-            &mut t[start..end]
-        } else {
-            &mut t[..0]
-        }
-    }
-
+    // The same of the store.
     pub(crate) fn bytes(self, store: &[u8]) -> &[u8] {
-        let start = self.start as usize;
-        let end = self.store_end();
-        if end <= store.len() {
-            &store[start..end]
-        } else {
-            &store[..0]
-        }
+        store
+            .get(self.start as usize..self.store_end())
+            .unwrap_or(&[])
     }
 
     pub(crate) fn bytes_mut(self, store: &mut [u8]) -> &mut [u8] {

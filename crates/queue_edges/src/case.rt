@@ -1,8 +1,8 @@
 // A line for each case: the call, the name of the case, the answer to a call over memory that holds zeros, and the state after it: capacity, held and next seq.
 use crate::states;
 use output::collected;
-use queue::ImpairQueue;
-use queue_calls::{Answer, Call, Copy, Tables};
+use queue::{ImpairQueue, Packet};
+use queue_calls::{Answer, Call, Tables};
 
 // Memory for two copies is lent; table number `short` has one entry less.
 pub fn create(name: &[u8], short: u32, cap: usize) {
@@ -12,13 +12,14 @@ pub fn create(name: &[u8], short: u32, cap: usize) {
 
 pub fn push(name: &[u8], queue: ImpairQueue, short: u32, due_ms: f64, arrival_ms: f64, n: usize) {
     output::text(b"push ");
-    let copy = Copy {
+    let packet = Packet {
         due_ms,
         arrival_ms,
         route: 7,
         copy_id: 1,
+        duplicated: false,
     };
-    line(name, queue, short, Call::Push(copy), n);
+    line(name, queue, short, Call::Push(packet), n);
 }
 
 pub fn release(name: &[u8], queue: ImpairQueue, short: u32, now_ms: f64) {

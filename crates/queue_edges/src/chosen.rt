@@ -1,7 +1,7 @@
 // The state, the lent memory and the call of a seed.
 use crate::scatter;
-use queue::ImpairQueue;
-use queue_calls::{Call, Copy, Lent};
+use queue::{ImpairQueue, Packet};
+use queue_calls::{Call, Lent};
 
 // The state that the last call left, one whose fields can stand together, or one whose fields are drawn each by itself.
 pub fn queue_of(left: ImpairQueue, seed: u64) -> ImpairQueue {
@@ -83,19 +83,20 @@ pub fn lent_of(seed: u64) -> Lent {
 pub fn call_of(seed: u64) -> Call {
     let n = draws::mix(seed, 37);
     match n % 16 {
-        0..=6 => Call::Push(copy_of(seed)),
+        0..=6 => Call::Push(packet_of(seed)),
         7..=11 => Call::Release(instant_of(n / 16)),
         12..=14 => Call::NextDue,
         _ => Call::Drain,
     }
 }
 
-fn copy_of(seed: u64) -> Copy {
-    Copy {
+fn packet_of(seed: u64) -> Packet {
+    Packet {
         due_ms: scatter::float_of(draws::mix(seed, 38)),
         arrival_ms: instant_of(draws::mix(seed, 39)),
         route: draws::mix(seed, 40),
         copy_id: 1,
+        duplicated: false,
     }
 }
 

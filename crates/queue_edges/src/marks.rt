@@ -69,7 +69,7 @@ fn words(t: &[u32; 256], lent: Lent, table: u32) -> Marks {
     let end = lent.end(table);
     let mut marks = Marks::new();
     for i in 0..256usize {
-        marks = marks.with(tables::get_u32(t, i) as u64, (start <= i) & (i < end));
+        marks = marks.with(tables::get(t, i, 0) as u64, (start <= i) & (i < end));
     }
     marks
 }
@@ -79,7 +79,7 @@ fn longs(t: &[u64; 256], lent: Lent, table: u32) -> Marks {
     let end = lent.end(table);
     let mut marks = Marks::new();
     for i in 0..256usize {
-        marks = marks.with(tables::get_u64(t, i), (start <= i) & (i < end));
+        marks = marks.with(tables::get(t, i, 0), (start <= i) & (i < end));
     }
     marks
 }
@@ -89,7 +89,7 @@ fn floats(t: &[f64; 256], lent: Lent, table: u32) -> Marks {
     let end = lent.end(table);
     let mut marks = Marks::new();
     for i in 0..256usize {
-        marks = marks.with(bits(tables::get_f64(t, i)), (start <= i) & (i < end));
+        marks = marks.with(bits(tables::get(t, i, 0.0)), (start <= i) & (i < end));
     }
     marks
 }

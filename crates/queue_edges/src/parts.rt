@@ -65,7 +65,7 @@ fn is_right(store: &[u8], slot: u32, n: usize) -> bool {
     if 2048 < n || store.len() < start || store.len() - start < n {
         return bytes.len() == 0;
     }
-    values::is_same(bytes, values::part(store, start, n))
+    bytes == values::part(store, start, n)
 }
 
 fn slot_of(n: u64) -> u32 {

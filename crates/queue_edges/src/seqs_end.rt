@@ -2,8 +2,8 @@
 // both.
 use crate::states::TOO_MANY;
 use crate::{case, states};
-use queue::ImpairQueue;
-use queue_calls::{Call, Copy, Tables};
+use queue::{ImpairQueue, Packet};
+use queue_calls::{Call, Tables};
 
 // One call after the other over the same memory.
 pub fn run() {
@@ -55,11 +55,12 @@ fn before(queue: ImpairQueue, step: u64) -> ImpairQueue {
     }
 }
 
-fn never() -> Copy {
-    Copy {
+fn never() -> Packet {
+    Packet {
         due_ms: states::infinity(),
         arrival_ms: 0.0,
         route: 7,
         copy_id: 1,
+        duplicated: false,
     }
 }

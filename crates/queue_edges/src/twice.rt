@@ -2,7 +2,8 @@
 // held and next seq), and of slots 0 and 1 the copy ids, which were 7, and the seqs, which were 0.
 use crate::states;
 use crate::states::TOO_MANY;
-use queue::{ImpairQueue, PushAnswer};
+use numbers::Refusal;
+use queue::{Entered, ImpairQueue, Packet, RowsMut, TreeMut};
 
 pub fn pushes() {
     push(b"empty", states::empty(5), 0, 1);
@@ -35,28 +36,35 @@ fn push(name: &[u8], queue: ImpairQueue, first_left: u32, last_left: u32) {
     let mut ids = [7u32; 2];
     let mut lengths = [0u32; 2];
     let mut store = [0u8; 4096];
-    let pushed = queue.push(
-        &mut win,
+    let mut tree = TreeMut {
+        win: &mut win,
+        dues: &mut dues,
+        seqs: &mut seqs,
+    };
+    let mut rows = RowsMut {
+        arrivals: &mut arrivals,
+        routes: &mut routes,
+        copy_ids: &mut ids,
+        lengths: &mut lengths,
+        store: &mut store,
+    };
+    let packet = Packet {
+        due_ms: 8.0,
+        arrival_ms: 7.0,
+        route: 9,
+        copy_id: 0,
+        duplicated: true,
+    };
+    let (after, pushed) = queue.push(
+        &mut tree,
         &[first_left, last_left],
-        &mut dues,
-        &mut seqs,
-        &mut arrivals,
-        &mut routes,
-        &mut ids,
-        &mut lengths,
-        &mut store,
-        8.0,
-        7.0,
-        9,
-        0,
-        true,
+        &mut rows,
+        packet,
         b"abc",
     );
     output::text(b"push both ");
     output::text(name);
-    let after = pushed.queue;
-    let answer = pushed.answer;
-    say(answer);
+    say(pushed);
     narrow(b"; queue", after.cap, after.held);
     output::count(after.next_seq);
     narrow(b"; ids", ids[0], ids[1]);
@@ -64,12 +72,12 @@ fn push(name: &[u8], queue: ImpairQueue, first_left: u32, last_left: u32) {
     output::end();
 }
 
-fn say(answer: PushAnswer) {
+fn say(answer: Result<Entered, Refusal>) {
     match answer {
-        PushAnswer::Entered { seq, copies } => pair(b": entered", seq, copies as u64),
-        PushAnswer::Refused(number) => {
+        Ok(entered) => pair(b": entered", entered.seq, entered.copies as u64),
+        Err(refusal) => {
             output::text(b": refused");
-            output::count(number as u64);
+            output::count(refusal.number() as u64);
         }
     }
 }

@@ -1,16 +1,18 @@
 -- Each call of crates/queue, on tables and a state that keep a plain queue, says what the plain queue says, and what it leaves keeps what the plain queue
 -- is then. A layer above the queue cites these laws and not the structure behind them.
-use Rattle.std.specs.Prelude.{◌≡◌, Bool, cond, ◌&&◌, ℕ, ◌+◌, ◌<◌, ◌≤◌, leb, eqb, Float, get_or}
+use Rattle.std.specs.Prelude.{◌≡◌, Bool, cond, ◌&&◌, ℕ, ◌+◌, ◌<◌, ◌≤◌, leb, eqb, Float, get_or, Option, None, Result, Ok, Err}
 use Rattle.std.proofs.Math.Path.{refl, ap}
 use Rattle.std.proofs.Common.{sym, ◌∙◌, subst, arith}
 use mathlib.Core.List.{List, [], ◌∷◌}
 use Rattle.std.proofs.Math.Bool.{true, false, not}
 use Rattle.std.specs.Float.Ieee.{le, is_nan}
 use Rattle.std.proofs.Math.ListN.{length}
-use borrow.Author.Tests.{le-leb, lt-leb, eq-eqb, ne_eqb, leb-true, eqb-true, eqb-false, not-true}
-use Rattle.numbers.specs.Checks.{first_failing}
+use borrow.Author.Tests.{le-leb, lt-leb, eq-eqb, ne_eqb, leb-true, eqb-false, not-true}
+use Rattle.numbers.specs.Checks.{first_failing, unless, number_if}
+use Rattle.numbers.specs.Refusals.{number_of}
+use Rattle.numbers.specs.declared.refusal.Refusal.{Refusal}
 use Rattle.numbers.specs.Laws.Both.{both, both_true}
-use Rattle.numbers.specs.Laws.Checks.{none_failing}
+use Rattle.numbers.specs.Laws.Checks.{none_failing, number_first, number_some}
 use Rattle.numbers.specs.Laws.Limits.{counter_below}
 use Rattle.numbers.specs.Limits.{max_capacity, counter_limit, is_counter_of}
 use Rattle.numbers.specs.Whole.{whole}
@@ -19,13 +21,9 @@ use Rattle.held.proofs.Due.{if_due, least_due_lem}
 use Rattle.tournament.specs.Calls.{least_of}
 use Rattle.queue.specs.Tables.{Tables, After, after}
 use Rattle.queue.specs.Refusals.{memory_of, in_keeping, push_refusal, release_refusal, state_refusal, due_refusal}
-use Rattle.queue.specs.Calls.{fresh, not_pushed, AfterCopy, enter_copy_of, told_of, told, again_of, second_of, enter_copies_of, push_of, not_released, left_of, due_of, release_of, drain_of, due_at, next_due_of, len_of, is_empty_of}
+use Rattle.queue.specs.Calls.{Handed, fresh, not_pushed, AfterCopy, enter_copy_of, told_by, told, again_of, second_of, enter_copies_of, push_of, not_released, left_of, due_of, release_of, drain_of, due_at, next_due_of, len_of, is_empty_of}
 use Rattle.queue.specs.declared.queue.ImpairQueue.{ImpairQueue}
-use Rattle.queue.specs.declared.answers.DrainAnswer.TheVariants as drain
-use Rattle.queue.specs.declared.answers.DueAnswer.{DueAnswer}
-use Rattle.queue.specs.declared.answers.DueAnswer.TheVariants as due
-use Rattle.queue.specs.declared.answers.Released.{Released}
-use Rattle.queue.specs.declared.answers.ReleaseAnswer.TheVariants as release
+use Rattle.queue.specs.declared.answers.Queued.{Queued}
 use Rattle.queue_laws.specs.Held.{Plain, Step, step_to, entered, none_due, drained, due_next, refused, unless_refused, is_full, with_copy, second_plain, push_checks, push_plain, hand_out, release_checks, release_plain, state_checks, drain_plain, least_due, next_due_plain}
 use Rattle.queue_laws.specs.Replies.{Said, said, said_by_push, said_by_release, said_by_drain, said_of_due}
 use Rattle.queue_laws.specs.Laws.Keeps.{Keeps, row_of}
@@ -50,14 +48,14 @@ module _ (width : ℕ) (t : Tables) (q : ImpairQueue) (p : Plain) (k : Keeps wid
 
 -- the answer after the last copy
 told_agrees : (width seq copies : ℕ) (o : AfterCopy) (p : Plain) → Entered width o p → Agree width (said_by_push (told seq copies o)) (step_to (entered seq copies) p)
-unfolding told_of
+unfolding told_by
 told_agrees width seq copies o p h = rw h.fits (record { says = refl; keeps = h.keeps })
 
 -- what follows a first copy with that seq
 module _ (width : ℕ) (o : AfterCopy) (p : Plain) (h : Entered width o p) (seq : ℕ) (due arrival : Float) (route : ℕ) (duplicated : Bool) (bytes : List ℕ)
     (num : is_nan due ≡ false) (fit : length bytes ≤ width) (below : p.next_seq ≤ counter_limit) where
   again_same : again_of duplicated o.gives ≡ (duplicated && not (is_full p))
-  again_same = rw (h.fits, same_full width o.memory o.gives.queue p h.keeps)
+  again_same = rw (h.fits, same_full width o.memory o.gives.0 p h.keeps)
 
   second_agrees : Agree width (said_by_push (second_of width seq due arrival route duplicated bytes o)) (second_plain seq p due arrival route duplicated bytes)
   unfolding second_of second_plain
@@ -66,8 +64,8 @@ module _ (width : ℕ) (o : AfterCopy) (p : Plain) (h : Entered width o p) (seq 
       go : (b : Bool) → (duplicated && not (is_full p)) ≡ b → Agree width (said_by_push (second_of width seq due arrival route duplicated bytes o)) (second_plain seq p due arrival route duplicated bytes)
       go false e = rw (again_same, e) (told_agrees width seq 1 o p h)
       go true e =
-          let room = has_room width o.memory o.gives.queue p h.keeps (not-true (is_full p) (both_true duplicated (not (is_full p)) e).1) in
-          rw (again_same, e) (told_agrees width seq 2 _ _ (copy_enters width o.memory o.gives.queue p h.keeps room due arrival route 1 bytes num fit (omega (arith, h.keeps.same_next, below))))
+          let room = has_room width o.memory o.gives.0 p h.keeps (not-true (is_full p) (both_true duplicated (not (is_full p)) e).1) in
+          rw (again_same, e) (told_agrees width seq 2 _ _ (copy_enters width o.memory o.gives.0 p h.keeps room due arrival route 1 bytes num fit (omega (arith, h.keeps.same_next, below))))
 
 module _ (width : ℕ) (t : Tables) (q : ImpairQueue) (p : Plain) (k : Keeps width t q p) where
   -- ---- the refusals: neither the memory nor the keeping fails
@@ -82,27 +80,24 @@ module _ (width : ℕ) (t : Tables) (q : ImpairQueue) (p : Plain) (k : Keeps wid
   same_counter : is_counter_of q.next_seq ≡ is_counter_of p.next_seq
   same_counter = rw k.same_next
 
-  push_number : (due arrival : Float) (len : ℕ) → push_refusal width q (memory_of width q.cap t) due arrival len ≡ first_failing (push_checks width p due arrival len)
+  push_number : (due arrival : Float) (len : ℕ) → number_if (push_refusal width q (memory_of width q.cap t) due arrival len) ≡ first_failing (push_checks width p due arrival len)
   unfolding push_refusal first_failing
-  push_number due arrival len = rw (memory_holds, keeping_holds, same_full width t q p k, same_counter)
+  push_number due arrival len = number_first _ ∙ (rw (memory_holds, keeping_holds, same_full width t q p k, same_counter))
 
-  release_number : (now : Float) → release_refusal q (memory_of width q.cap t) now ≡ first_failing (release_checks p now)
+  release_number : (now : Float) → number_if (release_refusal q (memory_of width q.cap t) now) ≡ first_failing (release_checks p now)
   unfolding release_refusal first_failing
-  release_number now = rw (memory_holds, keeping_holds, same_counter)
+  release_number now = number_first _ ∙ (rw (memory_holds, keeping_holds, same_counter))
 
-  state_number : state_refusal q true ≡ first_failing (state_checks p)
+  state_number : number_if (state_refusal q true) ≡ first_failing (state_checks p)
   unfolding state_refusal first_failing
-  state_number = rw (keeping_holds, same_counter)
+  state_number = number_first _ ∙ (rw (keeping_holds, same_counter))
 
   -- a call that is refused by the number by which the plain queue refuses, and else does what its step does
-  by_number : {A : Type 0} (says : A → Said) (done : A) (refusal : ℕ → A) (s : Step) → ((n : ℕ) → says (refusal n) ≡ said (refused n) q t) → (n m : ℕ) → n ≡ m
-      → (m ≡ 0 → Agree width (says done) s)
-      → Agree width (says (cond (eqb n 0) done (refusal n))) (unless_refused p m s)
-  by_number says done refusal s refuses n m same h = rw same (go (eqb m 0) refl)
-    where
-      go : (b : Bool) → eqb m 0 ≡ b → Agree width (says (cond (eqb m 0) done (refusal m))) (unless_refused p m s)
-      go true e = rw e (h (eqb-true m 0 e))
-      go false e = rw e (rw (refuses m) (record { says = refl; keeps = k }))
+  by_number : {A : Type 0} (says : A → Said) (done : A) (refusal : Refusal → A) (s : Step) → ((e : Refusal) → says (refusal e) ≡ said (refused (number_of e)) q t)
+      → (r : Result (Unit {0}) Refusal) (m : ℕ) → number_if r ≡ m → (m ≡ 0 → Agree width (says done) s)
+      → Agree width (says (unless r done refusal)) (unless_refused p m s)
+  by_number says done refusal s refuses (Ok u) m same h = rw (← same) (h (sym same))
+  by_number says done refusal s refuses (Err e) m same h = rw (← same, number_some e, refuses e) (record { says = refl; keeps = k })
 
   -- ---- push
 
@@ -121,7 +116,7 @@ module _ (width : ℕ) (t : Tables) (q : ImpairQueue) (p : Plain) (k : Keeps wid
     pub push_agrees : Agree width (said_by_push (push_of width q t due arrival route id duplicated bytes)) (push_plain width p due arrival route id duplicated bytes)
     unfolding push_of enter_copies_of push_plain
     push_agrees =
-        by_number said_by_push (enter_copies_of width q t due arrival route id duplicated bytes) (λ (n : ℕ). after (not_pushed q n) t) _ (λ (n : ℕ). refl) _ _ (push_number due arrival (length bytes)) enters
+        by_number said_by_push (enter_copies_of width q t due arrival route id duplicated bytes) (λ (e : Refusal). after (not_pushed q e) t) _ (λ (e : Refusal). refl) _ _ (push_number due arrival (length bytes)) enters
       where
         enters : first_failing (push_checks width p due arrival (length bytes)) ≡ 0
             → Agree width (said_by_push (second_of width q.next_seq due arrival route duplicated bytes (enter_copy_of width q t due arrival route id bytes)))
@@ -136,8 +131,8 @@ module _ (width : ℕ) (t : Tables) (q : ImpairQueue) (p : Plain) (k : Keeps wid
   root = least_of t.win q.leaves
 
   -- what a release gives where the root's slot is in the tree, by whether its due has come
-  abbrev by_due : Bool → After Released
-  by_due b = cond b (left_of q t root) (not_released q release.NoneDue t)
+  abbrev by_due : Bool → After (Handed (Option Queued))
+  by_due b = cond b (left_of q t root) (not_released q (Ok None) t)
 
   -- where some copy is held, the root is a slot in use
   module _ (c : Copy) (l : List Copy) (e : p.held ≡ c ∷ l) where
@@ -160,7 +155,7 @@ module _ (width : ℕ) (t : Tables) (q : ImpairQueue) (p : Plain) (k : Keeps wid
 
     -- by what is held
     hands_out : (h : List Copy) → p.held ≡ h
-        → Agree width (said_by_release width (cond (eqb q.held 0) (not_released q release.NoneDue t) (due_of q t now root))) (hand_out p (leaving now p.held))
+        → Agree width (said_by_release width (cond (eqb q.held 0) (not_released q (Ok None) t) (due_of q t now root))) (hand_out p (leaving now p.held))
     unfolding hand_out leaving due_by least_in due_of
     hands_out [] e = rw (eq-eqb q.held 0 (k.count ∙ ap length e))
         (subst (λ (h : List Copy). Agree width (said none_due q t) (hand_out p (leaving now h))) (sym e) (record { says = refl; keeps = k }))
@@ -170,7 +165,7 @@ module _ (width : ℕ) (t : Tables) (q : ImpairQueue) (p : Plain) (k : Keeps wid
     pub release_agrees : Agree width (said_by_release width (release_of width q t now)) (release_plain p now)
     unfolding release_of release_plain
     release_agrees =
-        by_number (said_by_release width) (cond (eqb q.held 0) (not_released q release.NoneDue t) (due_of q t now root)) (λ (n : ℕ). not_released q (release.Refused n) t) _ (λ (n : ℕ). refl) _ _
+        by_number (said_by_release width) (cond (eqb q.held 0) (not_released q (Ok None) t) (due_of q t now root)) (λ (e : Refusal). not_released q (Err e) t) _ (λ (e : Refusal). refl) _ _
         (release_number now) (λ z. hands_out p.held refl)
 
   -- ---- drain
@@ -178,17 +173,17 @@ module _ (width : ℕ) (t : Tables) (q : ImpairQueue) (p : Plain) (k : Keeps wid
   pub drain_agrees : Agree width (said_by_drain t (drain_of q)) (drain_plain p)
   unfolding drain_of drain_plain
   drain_agrees =
-      by_number (said_by_drain t) (record { queue = fresh q.cap q.next_seq; answer = drain.Drained q.held }) (λ (n : ℕ). record { queue = q; answer = drain.Refused n }) _ (λ (n : ℕ). refl) _ _
+      by_number (said_by_drain t) (fresh q.cap q.next_seq, Ok q.held) (λ (e : Refusal). (q, Err e)) _ (λ (e : Refusal). refl) _ _
       state_number (λ z. record { says = ap drained k.count; keeps = drained_keeps width t q p k })
 
   -- ---- questions
 
-  due_number : due_refusal q (length t.win) (length t.dues) ≡ first_failing (state_checks p)
+  due_number : number_if (due_refusal q (length t.win) (length t.dues)) ≡ first_failing (state_checks p)
   unfolding due_refusal
   due_number = rw (le-leb q.cap (length t.win) k.long.win, le-leb q.cap (length t.dues) k.long.dues) state_number
 
   -- the least due that is held
-  tells_least : (h : List Copy) → p.held ≡ h → said_of_due (cond (eqb q.held 0) due.Empty (due_at q t.dues root)) ≡ least_due p.held
+  tells_least : (h : List Copy) → p.held ≡ h → said_of_due (cond (eqb q.held 0) (Ok None) (due_at q t.dues root)) ≡ least_due p.held
   unfolding least_due due_at
   tells_least [] e = rw (eq-eqb q.held 0 (k.count ∙ ap length e), e)
   tells_least (c ∷ l) e = rw (not_empty c l e, in_tree c l e, e) (ap (λ (x : Copy). due_next x.due) (sym (root_least width t q p k c l e)))
@@ -196,7 +191,7 @@ module _ (width : ℕ) (t : Tables) (q : ImpairQueue) (p : Plain) (k : Keeps wid
   pub due_agrees : Agree width (said (said_of_due (next_due_of q t.win t.dues)) q t) (next_due_plain p)
   unfolding next_due_of next_due_plain
   due_agrees =
-      by_number (λ (a : DueAnswer). said (said_of_due a) q t) (cond (eqb q.held 0) due.Empty (due_at q t.dues root)) (λ (n : ℕ). due.Refused n) _ (λ (n : ℕ). refl) _ _ due_number
+      by_number (λ (a : Result (Option Float) Refusal). said (said_of_due a) q t) (cond (eqb q.held 0) (Ok None) (due_at q t.dues root)) (λ (e : Refusal). Err e) _ (λ (e : Refusal). refl) _ _ due_number
       (λ z. record { says = tells_least p.held refl; keeps = k })
 
   -- the number of copies that are held

@@ -1,11 +1,11 @@
 -- For every list of calls on a queue that was created, or whose creation was refused, each reply is the plain queue's.
-use Rattle.std.specs.Prelude.{◌≡◌, refl, true, List, [], ◌∷◌, ℕ}
+use Rattle.std.specs.Prelude.{◌≡◌, refl, true, List, [], ◌∷◌, ℕ, Ok, Err}
 use Rattle.std.proofs.Common.{ap, ◌∙◌}
 use Rattle.queue.specs.Tables.{Tables}
 use Rattle.queue.specs.Refusals.{memory_of}
 use Rattle.queue.specs.Calls.{create_of}
 use Rattle.queue.specs.declared.queue.ImpairQueue.{ImpairQueue}
-use Rattle.queue.specs.declared.answers.CreateAnswer.TheVariants as create
+use Rattle.numbers.specs.declared.refusal.Refusal.{Refusal}
 use Rattle.queue_laws.specs.Held.{Plain, plain, Call, push, release, drain, next_due, len, is_empty, has_memory, Reply, holds, tells, step, run}
 use Rattle.queue_laws.specs.Replies.{answer_to, answers_to}
 use Rattle.queue_laws.specs.Laws.Keeps.{Keeps}
@@ -31,10 +31,10 @@ calls_agree width (c ∷ cs) t q p k =
     ∙ ap (λ (l : List Reply). (step width p c).reply ∷ l) (calls_agree width cs _ _ _ a.keeps)
 
 -- from creation on, whatever stood in the lent memory
-pub created_agrees : (width cap : ℕ) (t : Tables) → (create_of width cap t).answer ≡ create.Created → (cs : List Call) → answers_to width (create_of width cap t).queue t cs ≡ run width (plain cap [] 0) cs
-created_agrees width cap t made cs = calls_agree width cs t (create_of width cap t).queue (plain cap [] 0) (create_keeps width cap t made)
+pub created_agrees : (width cap : ℕ) (t : Tables) → (create_of width cap t).1 ≡ Ok tt → (cs : List Call) → answers_to width (create_of width cap t).0 t cs ≡ run width (plain cap [] 0) cs
+created_agrees width cap t made cs = calls_agree width cs t (create_of width cap t).0 (plain cap [] 0) (create_keeps width cap t made)
 
 -- and after a refused creation, which gives a queue of capacity 1, on any memory that is long enough for it
-pub refused_creation_agrees : (width cap : ℕ) (t later : Tables) (n : ℕ) → (create_of width cap t).answer ≡ create.Refused n → memory_of width 1 later ≡ true → (cs : List Call)
-    → answers_to width (create_of width cap t).queue later cs ≡ run width (plain 1 [] 0) cs
-refused_creation_agrees width cap t later n refused long cs = calls_agree width cs later (create_of width cap t).queue (plain 1 [] 0) (refused_keeps width cap t later n refused long)
+pub refused_creation_agrees : (width cap : ℕ) (t later : Tables) (e : Refusal) → (create_of width cap t).1 ≡ Err e → memory_of width 1 later ≡ true → (cs : List Call)
+    → answers_to width (create_of width cap t).0 later cs ≡ run width (plain 1 [] 0) cs
+refused_creation_agrees width cap t later e refused long cs = calls_agree width cs later (create_of width cap t).0 (plain 1 [] 0) (refused_keeps width cap t later e refused long)

@@ -1,45 +1,37 @@
 -- What the answers of crates/queue say, as replies of the plain queue: the slot is left out, and a released copy has its bytes from the store.
-use Rattle.std.specs.Prelude.{List, [], ◌∷◌, ℕ}
+use Rattle.std.specs.Prelude.{List, [], ◌∷◌, ℕ, Float, Option, None, Some, Result, Ok, Err}
+use Rattle.numbers.specs.Refusals.{number_of}
+use Rattle.numbers.specs.declared.refusal.Refusal.{Refusal}
 use Rattle.held.specs.Copies.{Copy, copy}
-use Rattle.queue.specs.Calls.{payload_of, push_of, release_of, drain_of, next_due_of, len_of, is_empty_of}
+use Rattle.queue.specs.Calls.{Handed, payload_of, push_of, release_of, drain_of, next_due_of, len_of, is_empty_of}
 use Rattle.queue.specs.Refusals.{memory_of}
 use Rattle.queue.specs.Tables.{Tables, After}
 use Rattle.queue.specs.declared.queue.ImpairQueue.{ImpairQueue}
+use Rattle.queue.specs.declared.answers.Entered.{Entered}
 use Rattle.queue.specs.declared.answers.Queued.{Queued}
-use Rattle.queue.specs.declared.answers.Pushed.{Pushed}
-use Rattle.queue.specs.declared.answers.PushAnswer.{PushAnswer}
-use Rattle.queue.specs.declared.answers.PushAnswer.TheVariants as push_answer
-use Rattle.queue.specs.declared.answers.Released.{Released}
-use Rattle.queue.specs.declared.answers.ReleaseAnswer.{ReleaseAnswer}
-use Rattle.queue.specs.declared.answers.ReleaseAnswer.TheVariants as release_answer
-use Rattle.queue.specs.declared.answers.Drained.{Drained}
-use Rattle.queue.specs.declared.answers.DrainAnswer.{DrainAnswer}
-use Rattle.queue.specs.declared.answers.DrainAnswer.TheVariants as drain_answer
-use Rattle.queue.specs.declared.answers.DueAnswer.{DueAnswer}
-use Rattle.queue.specs.declared.answers.DueAnswer.TheVariants as due_answer
 use Rattle.queue_laws.specs.Held.{Call, push, release, drain, next_due, len, is_empty, has_memory, Reply, entered, released, none_due, drained, due_next, none_held, holds, tells, refused}
 
-abbrev pub said_of_push : PushAnswer → Reply
-said_of_push (push_answer.Entered seq copies) = entered seq copies
-said_of_push (push_answer.Refused k) = refused k
+abbrev pub said_of_push : Result Entered Refusal → Reply
+said_of_push (Ok e) = entered e.seq e.copies
+said_of_push (Err e) = refused (number_of e)
 
 -- the copy that left, with the bytes of its slot in the store
 abbrev pub copy_of : ℕ → List ℕ → Queued → Copy
 copy_of width store c = copy c.due_ms c.seq c.arrival_ms c.route c.copy_id c.length (payload_of width store c.slot c.length)
 
-abbrev pub said_of_release : ℕ → List ℕ → ReleaseAnswer → Reply
-said_of_release width store (release_answer.Released c) = released (copy_of width store c)
-said_of_release width store release_answer.NoneDue = none_due
-said_of_release width store (release_answer.Refused k) = refused k
+abbrev pub said_of_release : ℕ → List ℕ → Result (Option Queued) Refusal → Reply
+said_of_release width store (Ok (Some c)) = released (copy_of width store c)
+said_of_release width store (Ok None) = none_due
+said_of_release width store (Err e) = refused (number_of e)
 
-abbrev pub said_of_drain : DrainAnswer → Reply
-said_of_drain (drain_answer.Drained n) = drained n
-said_of_drain (drain_answer.Refused k) = refused k
+abbrev pub said_of_drain : Result ℕ Refusal → Reply
+said_of_drain (Ok n) = drained n
+said_of_drain (Err e) = refused (number_of e)
 
-abbrev pub said_of_due : DueAnswer → Reply
-said_of_due (due_answer.Due d) = due_next d
-said_of_due due_answer.Empty = none_held
-said_of_due (due_answer.Refused k) = refused k
+abbrev pub said_of_due : Result (Option Float) Refusal → Reply
+said_of_due (Ok (Some d)) = due_next d
+said_of_due (Ok None) = none_held
+said_of_due (Err e) = refused (number_of e)
 
 -- what a call says, and the state and tables that it leaves
 pub record Said : Type 0 where
@@ -50,15 +42,15 @@ pub record Said : Type 0 where
 abbrev pub said : Reply → ImpairQueue → Tables → Said
 said r q t = record { reply = r; queue = q; tables = t }
 
-abbrev pub said_by_push : After Pushed → Said
-said_by_push o = said (said_of_push o.gives.answer) o.gives.queue o.memory
+abbrev pub said_by_push : After (Handed Entered) → Said
+said_by_push o = said (said_of_push o.gives.1) o.gives.0 o.memory
 
 -- a released copy is read with the store that the call leaves
-abbrev pub said_by_release : ℕ → After Released → Said
-said_by_release width o = said (said_of_release width o.memory.store o.gives.answer) o.gives.queue o.memory
+abbrev pub said_by_release : ℕ → After (Handed (Option Queued)) → Said
+said_by_release width o = said (said_of_release width o.memory.store o.gives.1) o.gives.0 o.memory
 
-abbrev pub said_by_drain : Tables → Drained → Said
-said_by_drain t o = said (said_of_drain o.answer) o.queue t
+abbrev pub said_by_drain : Tables → Handed ℕ → Said
+said_by_drain t o = said (said_of_drain o.1) o.0 t
 
 -- a call of crates/queue
 unfoldable pub answer_to : ℕ → ImpairQueue → Tables → Call → Said

@@ -1,7 +1,8 @@
 // What a line asks for, with its numbers.
 use crate::words;
 use crate::words::Word;
-use queue_calls::{Call, Copy};
+use queue::Packet;
+use queue_calls::Call;
 use script::{Event, fields};
 
 // A call; of a push also the number of the bytes and the seed that they are made from.
@@ -56,7 +57,7 @@ fn push(rest: &[u8]) -> Request {
     let length = script::rest(script::rest(route));
     if is_copy(rest, route) & fields::is_pair(length) {
         Request {
-            call: Call::Push(copy_of(rest, route)),
+            call: Call::Push(packet_of(rest, route)),
             length: fields::whole_of(script::first_word(length)),
             fill: fields::whole_of(script::rest(length)),
         }
@@ -73,12 +74,13 @@ fn is_copy(rest: &[u8], route: &[u8]) -> bool {
         & words::is_u32(script::first_word(script::rest(route)))
 }
 
-fn copy_of(rest: &[u8], route: &[u8]) -> Copy {
-    Copy {
+fn packet_of(rest: &[u8], route: &[u8]) -> Packet {
+    Packet {
         due_ms: fields::float_of(script::first_word(rest)),
         arrival_ms: fields::float_of(script::first_word(script::rest(rest))),
         route: fields::whole_of(script::first_word(route)),
         copy_id: words::u32_of(script::first_word(script::rest(route))),
+        duplicated: false,
     }
 }
 

@@ -14,25 +14,15 @@ pub enum Word {
 }
 
 pub fn word_named(word: &[u8]) -> Word {
-    if values::is_same(word, b"push") {
-        return Word::Push;
+    match word {
+        b"push" => Word::Push,
+        b"release" => Word::Release,
+        b"due" => Word::Due,
+        b"drain" => Word::Drain,
+        b"len" => Word::Len,
+        b"queue" => Word::Queue,
+        _ => Word::Unknown,
     }
-    if values::is_same(word, b"release") {
-        return Word::Release;
-    }
-    if values::is_same(word, b"due") {
-        return Word::Due;
-    }
-    if values::is_same(word, b"drain") {
-        return Word::Drain;
-    }
-    if values::is_same(word, b"len") {
-        return Word::Len;
-    }
-    if values::is_same(word, b"queue") {
-        return Word::Queue;
-    }
-    Word::Unknown
 }
 
 // Whether the word is a whole number below 2^32.

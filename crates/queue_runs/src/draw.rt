@@ -1,7 +1,8 @@
 // Calls that are drawn at random. The route, the arrival, the copy id, the length and the bytes of a copy follow from one seed, so that a list which has the
 // seed has them all.
 use draws::Rng;
-use queue_calls::{Call, Copy};
+use queue::Packet;
+use queue_calls::Call;
 
 // A call, the seed of its copy, and the generator after it.
 #[derive(Clone, Copy)]
@@ -12,21 +13,13 @@ pub struct Drawn {
 }
 
 pub fn next(rng: Rng, turn: u64) -> Drawn {
-    let kind = rng.next_u64();
-    let first = kind.rng;
-    let time = first.next_u64();
-    let second = time.rng;
-    let seed = second.next_u64();
-    let after = seed.rng;
+    let (rng, kind) = rng.next_u64();
+    let (rng, time) = rng.next_u64();
+    let (rng, seed) = rng.next_u64();
     Drawn {
-        rng: after,
-        call: call_of(
-            kind.value / 0x1_0000_0000 % 1000,
-            pushes_at(turn),
-            time.value,
-            seed.value,
-        ),
-        seed: seed.value,
+        rng,
+        call: call_of(kind / 0x1_0000_0000 % 1000, pushes_at(turn), time, seed),
+        seed,
     }
 }
 
@@ -41,7 +34,7 @@ fn pushes_at(turn: u64) -> u64 {
 
 fn call_of(kind: u64, pushes: u64, time: u64, seed: u64) -> Call {
     if kind < pushes {
-        return Call::Push(copy_of(due_of(time / 0x1_0000_0000), seed));
+        return Call::Push(packet_of(due_of(time / 0x1_0000_0000), seed));
     }
     if kind < 900 {
         return Call::Release(instant_of(time / 0x1_0000_0000));
@@ -74,13 +67,14 @@ fn instant_of(n: u64) -> f64 {
     }
 }
 
-// The copy of a seed, with this due.
-pub fn copy_of(due_ms: f64, seed: u64) -> Copy {
-    Copy {
+// The packet of a seed, with this due.
+pub fn packet_of(due_ms: f64, seed: u64) -> Packet {
+    Packet {
         due_ms,
         arrival_ms: numbers::float_of(draws::mix(seed, 1) % 1000) * 0.25,
         route: draws::mix(seed, 2),
         copy_id: (draws::mix(seed, 3) % 0x1_0000_0000) as u32,
+        duplicated: false,
     }
 }
 

@@ -1,7 +1,7 @@
 // A queue as a plain list: what it holds stands at the front of its tables in no order, and the least is found by a scan.
 use crate::draw;
-use queue::Queued;
-use queue_calls::{Answer, Call, Copy};
+use queue::{Packet, Queued};
+use queue_calls::{Answer, Call};
 
 // How many copies are held, how many may be, the next seq, and of each copy the due, the seq and its seed.
 #[derive(Clone, Copy)]
@@ -55,11 +55,11 @@ impl List {
         }
     }
 
-    fn push(self, seed: u64, copy: Copy) -> Listed {
+    fn push(self, seed: u64, packet: Packet) -> Listed {
         if self.held == self.cap {
-            return self.stays(Answer::Refused(numbers::REFUSED_FULL));
+            return self.stays(Answer::Refused(numbers::Refusal::Full.number()));
         }
-        let mut list = self.with(self.held as usize, copy.due_ms, self.next_seq, seed);
+        let mut list = self.with(self.held as usize, packet.due_ms, self.next_seq, seed);
         list.held = std::num::wrapping_add_u64(self.held, 1);
         list.next_seq = std::num::wrapping_add_u64(self.next_seq, 1);
         Listed {
@@ -110,17 +110,17 @@ impl List {
 
     fn due_at(self, at: usize) -> f64 {
         let dues = self.dues;
-        tables::get_f64(&dues, at)
+        tables::get(&dues, at, 0.0)
     }
 
     fn seq_at(self, at: usize) -> u64 {
         let seqs = self.seqs;
-        tables::get_u64(&seqs, at)
+        tables::get(&seqs, at, 0)
     }
 
     fn seed_at(self, at: usize) -> u64 {
         let seeds = self.seeds;
-        tables::get_u64(&seeds, at)
+        tables::get(&seeds, at, 0)
     }
 
     // A copy stands at a place.
@@ -145,10 +145,10 @@ fn least_of(dues: &[f64], seqs: &[u64], held: u64) -> usize {
 
 // The place of a and b at which the lesser (due, seq) stands.
 fn lesser(dues: &[f64], seqs: &[u64], a: usize, b: usize) -> usize {
-    let a_due = tables::get_f64(dues, a);
-    let b_due = tables::get_f64(dues, b);
+    let a_due = tables::get(dues, a, 0.0);
+    let b_due = tables::get(dues, b, 0.0);
     if a_due == b_due {
-        if tables::get_u64(seqs, a) < tables::get_u64(seqs, b) {
+        if tables::get(seqs, a, 0) < tables::get(seqs, b, 0) {
             a
         } else {
             b
@@ -162,7 +162,7 @@ fn lesser(dues: &[f64], seqs: &[u64], a: usize, b: usize) -> usize {
 
 // The copy of a seed as it leaves; its bytes are to lie in slot 0.
 fn queued(due_ms: f64, seq: u64, seed: u64) -> Queued {
-    let copy = draw::copy_of(due_ms, seed);
+    let copy = draw::packet_of(due_ms, seed);
     Queued {
         due_ms,
         seq,

@@ -47,8 +47,5 @@ fn is_same(a: Answer, a_store: &[u8], b: Answer, b_store: &[u8]) -> bool {
     let mut b_words = [0u8; 256];
     let a_end = queue_calls::say(&mut a_words, 0, a, a_store);
     let b_end = queue_calls::say(&mut b_words, 0, b, b_store);
-    values::is_same(
-        values::front(&a_words, a_end),
-        values::front(&b_words, b_end),
-    )
+    values::front(&a_words, a_end) == values::front(&b_words, b_end)
 }

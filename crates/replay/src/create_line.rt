@@ -3,13 +3,7 @@ use crate::device_words;
 use crate::state::State;
 use device::Device;
 use options::DirectionConfig;
-
-// The settings of a direction, and the seed.
-#[derive(Clone, Copy)]
-struct Choice {
-    settings: DirectionConfig,
-    seed: u64,
-}
+use queue::{Rows, Tree};
 
 pub fn create(
     out: &mut [u8],
@@ -18,50 +12,20 @@ pub fn create(
     salt: u64,
     cap: u64,
     text: &[u8],
-    win: &[u32],
+    tree: Tree<'_>,
     free: &[u32],
-    dues: &[f64],
-    seqs: &[u64],
-    arrivals: &[f64],
-    routes: &[u64],
-    copy_ids: &[u32],
-    lengths: &[u32],
-    store: &[u8],
+    rows: Rows<'_>,
 ) -> State {
-    let chosen = chosen(values::front(text, s.length), c2s);
-    let settings = chosen.settings;
-    let created = Device::create(
-        settings,
-        chosen.seed,
-        salt,
-        cap as usize,
-        win,
-        free,
-        dues,
-        seqs,
-        arrivals,
-        routes,
-        copy_ids,
-        lengths,
-        store,
-    );
-    let device = created.device;
-    let answer = created.answer;
+    let (settings, seed) = chosen(values::front(text, s.length), c2s);
+    let (device, answer) = Device::create(settings, seed, salt, cap as usize, tree, free, rows);
     s.device = device;
     s.at = device_words::created(out, s.at, answer);
     s
 }
 
-// A text that is refused gives the default settings.
-fn chosen(text: &[u8], c2s: bool) -> Choice {
-    let p = options::parse_config(text);
-    let config = p.config;
-    let seed = config.seed;
-    if c2s {
-        let settings = config.c2s;
-        Choice { settings, seed }
-    } else {
-        let settings = config.s2c;
-        Choice { settings, seed }
-    }
+// The settings of the direction, and the seed; a text that is refused gives the default ones.
+fn chosen(text: &[u8], c2s: bool) -> (DirectionConfig, u64) {
+    let (config, _) = options::parse_config(text);
+    let settings = if c2s { config.c2s } else { config.s2c };
+    (settings, config.seed)
 }

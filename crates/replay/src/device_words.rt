@@ -1,42 +1,29 @@
 // The device's answers as words. `out` and `at` are those of output::collected.
-use device::{ArriveAnswer, CreateAnswer, RebindAnswer, TeardownAnswer};
+use device::Arrived;
+use numbers::Refusal;
 use output::collected;
-use queue::ReleaseAnswer;
+use queue::Queued;
+use queue_calls::Answer;
 use script::answers;
 use steps::Decision;
 
-pub fn created(out: &mut [u8], at: usize, answer: CreateAnswer) -> usize {
-    match answer {
-        CreateAnswer::Created => collected::text(out, at, b"created"),
-        CreateAnswer::Refused(n) => answers::refused(out, at, n),
-    }
-}
-
-pub fn arrived(out: &mut [u8], at: usize, answer: ArriveAnswer) -> usize {
-    match answer {
-        ArriveAnswer::Decided {
-            decision,
-            entered,
-            overflowed,
-            torn,
-        } => decided(out, at, decision, entered, overflowed, torn),
-        ArriveAnswer::Refused(n) => answers::refused(out, at, n),
-    }
+pub fn created(out: &mut [u8], at: usize, answer: Result<(), Refusal>) -> usize {
+    engine_words::outcome(out, at, b"created", answer)
 }
 
 // The decision; of a packet that may enter also the copies entered and overflowed, of a reset those torn.
-fn decided(
-    out: &mut [u8],
-    at: usize,
-    decision: Decision,
-    entered: u64,
-    overflowed: u64,
-    torn: u64,
-) -> usize {
-    let end = engine_words::decision_text(out, at, decision);
-    match decision {
-        Decision::Enqueue { .. } => copies(out, end, entered, overflowed),
-        Decision::KillRst => collected::count(out, end, torn),
+pub fn arrived(out: &mut [u8], at: usize, answer: Result<Arrived, Refusal>) -> usize {
+    match answer {
+        Ok(arrived) => decided(out, at, arrived),
+        Err(refusal) => answers::refused(out, at, refusal.number()),
+    }
+}
+
+fn decided(out: &mut [u8], at: usize, arrived: Arrived) -> usize {
+    let end = engine_words::decision_text(out, at, arrived.decision);
+    match arrived.decision {
+        Decision::Enqueue { .. } => copies(out, end, arrived.entered, arrived.overflowed),
+        Decision::KillRst => collected::count(out, end, arrived.torn),
         _ => end,
     }
 }
@@ -47,20 +34,30 @@ fn copies(out: &mut [u8], at: usize, entered: u64, overflowed: u64) -> usize {
 }
 
 // Of a copy that left also the sum of its bytes, which lie in the store.
-pub fn released(out: &mut [u8], at: usize, answer: ReleaseAnswer, store: &[u8]) -> usize {
-    queue_calls::say(out, at, queue_calls::released(answer), store)
+pub fn released(
+    out: &mut [u8],
+    at: usize,
+    answer: Result<Option<Queued>, Refusal>,
+    store: &[u8],
+) -> usize {
+    let said = match answer {
+        Ok(Some(copy)) => Answer::Released(copy),
+        Ok(None) => Answer::NoneDue,
+        Err(refusal) => Answer::Refused(refusal.number()),
+    };
+    queue_calls::say(out, at, said, store)
 }
 
-pub fn rebound(out: &mut [u8], at: usize, answer: RebindAnswer) -> usize {
+pub fn rebound(out: &mut [u8], at: usize, answer: Result<bool, Refusal>) -> usize {
     match answer {
-        RebindAnswer::Said(yes) => answers::numbered(out, at, b"rebind", yes as u64),
-        RebindAnswer::Refused(n) => answers::refused(out, at, n),
+        Ok(yes) => answers::numbered(out, at, b"rebind", yes as u64),
+        Err(refusal) => answers::refused(out, at, refusal.number()),
     }
 }
 
-pub fn torn_down(out: &mut [u8], at: usize, answer: TeardownAnswer) -> usize {
+pub fn torn_down(out: &mut [u8], at: usize, answer: Result<u64, Refusal>) -> usize {
     match answer {
-        TeardownAnswer::Torn(copies) => answers::numbered(out, at, b"torn", copies),
-        TeardownAnswer::Refused(n) => answers::refused(out, at, n),
+        Ok(copies) => answers::numbered(out, at, b"torn", copies),
+        Err(refusal) => answers::refused(out, at, refusal.number()),
     }
 }

@@ -1,7 +1,8 @@
 // The script, answered line by line to its end.
-use crate::memory::{Buffer, Floats, Longs, Store, Text, Words};
+use crate::memory::{Buffer, Text};
 use crate::state::State;
 use crate::{lent, requests};
+use queue::{RowsMut, TreeMut};
 use script::{Source, answers};
 use std::rt::Stdin;
 
@@ -11,15 +12,9 @@ pub fn run(
     kept: &mut Buffer,
     text: &mut Text,
     out: &mut Buffer,
-    win: &mut Words,
-    free: &mut Words,
-    dues: &mut Floats,
-    seqs: &mut Longs,
-    arrivals: &mut Floats,
-    routes: &mut Longs,
-    copy_ids: &mut Words,
-    lengths: &mut Words,
-    store: &mut Store,
+    tree: &mut TreeMut<'_>,
+    free: &mut [u32],
+    rows: &mut RowsMut<'_>,
 ) {
     let mut source = Source::new();
     let mut state = State::new();
@@ -29,10 +24,7 @@ pub fn run(
         source = read.source;
         let event = read.event;
         let call = requests::call_at(event, kept, text);
-        state = lent::make(
-            out, state, call, text, win, free, dues, seqs, arrivals, routes, copy_ids, lengths,
-            store,
-        );
+        state = lent::make(out, state, call, text, tree, free, rows);
         state.at = answers::ended(out, state.at, event);
         turns = script::turns_after(turns, event);
     }

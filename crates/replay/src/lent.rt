@@ -1,38 +1,36 @@
 // Calls on a device over lent tables.
 use crate::calls::Call;
-use crate::memory::{Buffer, Floats, Longs, Store, Words};
 use crate::state::State;
 use crate::{arrive_line, create_line, options_line, other_lines, release_line};
+use queue::{RowsMut, TreeMut};
 use script::answers;
 
 // Makes the call and says its answer; `text` begins with the last option text.
 pub fn make(
-    out: &mut Buffer,
+    out: &mut [u8],
     s: State,
     call: Call,
     text: &[u8],
-    win: &mut Words,
-    free: &mut Words,
-    dues: &mut Floats,
-    seqs: &mut Longs,
-    arrivals: &mut Floats,
-    routes: &mut Longs,
-    copy_ids: &mut Words,
-    lengths: &mut Words,
-    store: &mut Store,
+    tree: &mut TreeMut<'_>,
+    free: &mut [u32],
+    rows: &mut RowsMut<'_>,
 ) -> State {
     match call {
         Call::Create(c2s, salt, cap) => create_line::create(
-            out, s, c2s, salt, cap, text, win, free, dues, seqs, arrivals, routes, copy_ids,
-            lengths, store,
+            out,
+            s,
+            c2s,
+            salt,
+            cap,
+            text,
+            tree.shared(),
+            free,
+            rows.shared(),
         ),
-        Call::Arrive(now_ms, packet) => arrive_line::arrive(
-            out, s, now_ms, packet, win, free, dues, seqs, arrivals, routes, copy_ids, lengths,
-            store,
-        ),
-        Call::Release(now_ms) => release_line::release(
-            out, s, now_ms, win, free, dues, seqs, arrivals, routes, copy_ids, lengths, store,
-        ),
+        Call::Arrive(now_ms, packet) => {
+            arrive_line::arrive(out, s, now_ms, packet, tree, free, rows)
+        }
+        Call::Release(now_ms) => release_line::release(out, s, now_ms, tree, free, rows.shared()),
         _ => unlent(out, s, call, text),
     }
 }

@@ -16,6 +16,8 @@ mod requests;
 mod state;
 mod words;
 
+use queue::{RowsMut, TreeMut};
+
 // The buffers and the device's memory are lent from here. The buffer for lines has an even length, as script::Beyond asks; that for option texts is above the
 // 16,384 bytes that a text may have, so that one that is too long is read as too long.
 fn main(rt: HostRuntime) {
@@ -31,21 +33,27 @@ fn main(rt: HostRuntime) {
     let mut routes = [0u64; 1024];
     let mut copy_ids = [0u32; 1024];
     let mut lengths = [0u32; 1024];
-    let mut store = [0u8; 2097152];
+    let mut store = memory::store();
+    let mut tree = TreeMut {
+        win: &mut win,
+        dues: &mut dues,
+        seqs: &mut seqs,
+    };
+    let mut rows = RowsMut {
+        arrivals: &mut arrivals,
+        routes: &mut routes,
+        copy_ids: &mut copy_ids,
+        lengths: &mut lengths,
+        store: &mut store,
+    };
     input::run(
         rt.stdin(),
         &mut chunk,
         &mut kept,
         &mut text,
         &mut out,
-        &mut win,
+        &mut tree,
         &mut free,
-        &mut dues,
-        &mut seqs,
-        &mut arrivals,
-        &mut routes,
-        &mut copy_ids,
-        &mut lengths,
-        &mut store,
+        &mut rows,
     );
 }

@@ -1,29 +1,18 @@
 // The line `r NOW`: the least copy that is due leaves.
 use crate::device_words;
-use crate::memory::{Buffer, Floats, Longs, Words};
 use crate::state::State;
+use queue::{Rows, TreeMut};
 
 pub fn release(
-    out: &mut Buffer,
+    out: &mut [u8],
     mut s: State,
     now_ms: f64,
-    win: &mut Words,
-    free: &mut Words,
-    dues: &mut Floats,
-    seqs: &mut Longs,
-    arrivals: &[f64],
-    routes: &[u64],
-    copy_ids: &[u32],
-    lengths: &[u32],
-    store: &[u8],
+    tree: &mut TreeMut<'_>,
+    free: &mut [u32],
+    rows: Rows<'_>,
 ) -> State {
-    let device = s.device;
-    let released = device.release(
-        win, free, dues, seqs, arrivals, routes, copy_ids, lengths, store, now_ms,
-    );
-    let after = released.device;
-    let answer = released.answer;
-    s.device = after;
-    s.at = device_words::released(out, s.at, answer, store);
+    let (device, answer) = s.device.release(tree, free, rows, now_ms);
+    s.device = device;
+    s.at = device_words::released(out, s.at, answer, rows.store);
     s
 }

@@ -1,20 +1,20 @@
 // A report as words, each behind a blank.
-use accounts::{DirectionStats, Outcome};
-use device::Reported;
+use accounts::DirectionStats;
+use device::Report;
 use engine_words::stats;
+use numbers::Refusal;
 use output::collected;
 use script::answers;
 
-pub fn reported(out: &mut [u8], at: usize, report: Reported) -> usize {
-    let answer = report.answer;
+pub fn reported(out: &mut [u8], at: usize, answer: Result<Report, Refusal>) -> usize {
     match answer {
-        Outcome::Done => told(out, at, report),
-        Outcome::Refused(n) => answers::refused(out, at, n),
+        Ok(report) => told(out, at, report),
+        Err(refusal) => answers::refused(out, at, refusal.number()),
     }
 }
 
 // The statistics, and the copies held and torn.
-fn told(out: &mut [u8], at: usize, report: Reported) -> usize {
+fn told(out: &mut [u8], at: usize, report: Report) -> usize {
     let all = report.stats;
     let mut end = collected::text(out, at, b"report");
     end = counters(out, end, all);
@@ -49,10 +49,8 @@ fn latencies(out: &mut [u8], at: usize, all: DirectionStats) -> usize {
 
 fn buckets(out: &mut [u8], at: usize, hist: [u64; 12]) -> usize {
     let mut end = at;
-    let mut i = 0;
-    while i < 12 {
-        end = collected::count(out, end, hist[i]);
-        i += 1;
+    for packets in hist {
+        end = collected::count(out, end, packets);
     }
     end
 }

@@ -56,7 +56,7 @@ fn create(rest: &[u8]) -> Call {
     let numbers = script::rest(rest);
     if is_direction(direction) & fields::is_pair(numbers) {
         Call::Create(
-            values::is_same(direction, b"c2s"),
+            direction == b"c2s".as_slice(),
             fields::whole_of(script::first_word(numbers)),
             fields::whole_of(script::rest(numbers)),
         )
@@ -66,7 +66,7 @@ fn create(rest: &[u8]) -> Call {
 }
 
 fn is_direction(word: &[u8]) -> bool {
-    values::is_same(word, b"c2s") | values::is_same(word, b"s2c")
+    matches!(word, b"c2s" | b"s2c")
 }
 
 // An instant, a length, a route and a seed.

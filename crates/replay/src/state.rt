@@ -1,6 +1,7 @@
 // What the lines before have left.
-use device::{Created, Device};
+use device::Device;
 use options::DirectionConfig;
+use queue::{Rows, Tree};
 
 // How many bytes of answers are collected, as output::collected has it; how long the last option text is; and the device.
 #[derive(Clone, Copy)]
@@ -13,35 +14,28 @@ pub struct State {
 impl State {
     // Before the first line: no option text, and the device of a refused creation.
     pub fn new() -> Self {
-        let created = not_created();
-        let device = created.device;
         State {
             at: 0,
             length: 0,
-            device,
+            device: not_created(),
         }
     }
 }
 
 // A creation that is refused, since its capacity is 0.
-fn not_created() -> Created {
-    let slots: [u32; 0] = [];
-    let floats: [f64; 0] = [];
-    let numbers: [u64; 0] = [];
-    let bytes: [u8; 0] = [];
-    Device::create(
-        DirectionConfig::default(),
-        0,
-        0,
-        0,
-        &slots,
-        &slots,
-        &floats,
-        &numbers,
-        &floats,
-        &numbers,
-        &slots,
-        &slots,
-        &bytes,
-    )
+fn not_created() -> Device {
+    let tree = Tree {
+        win: &[],
+        dues: &[],
+        seqs: &[],
+    };
+    let rows = Rows {
+        arrivals: &[],
+        routes: &[],
+        copy_ids: &[],
+        lengths: &[],
+        store: &[],
+    };
+    let (device, _) = Device::create(DirectionConfig::default(), 0, 0, 0, tree, &[], rows);
+    device
 }

@@ -1,9 +1,7 @@
 -- What the contracts of `script` cite: Hex (digits, and the text that they stand for), Patterns (16 digits that are a float's bits),
--- Lines (a line as its bytes come in), Cuts (lines cut from what was read), Words (the words of a line), OptionText (the text behind the first), Turns (the loop over the input).
+-- Lines (the lines of an input), Words (the words of a line, and the whole numbers among them), Old (what the older form cites).
 pub mod Hex
 pub mod Patterns
 pub mod Lines
-pub mod Cuts
 pub mod Words
-pub mod OptionText
-pub mod Turns
+pub mod Old

@@ -1,14 +1,12 @@
 -- Bit patterns in hexadecimal digits.
-use Rattle.std.specs.Prelude.{ℕ, ◌+◌, ◌*◌, cond, List, [], ◌∷◌, length, ◌==◌, nat_lt}
+use Rattle.std.specs.Prelude.{ℕ, ◌+◌, ◌*◌, List, [], ◌∷◌, length, ◌==◌, Option, Some, None, if◌then◌else◌, option_and_then}
 use Rattle.script.specs.Hex.{digit_of}
-use Rattle.script.specs.declared.patterns.Pattern.{Pattern}
-use Rattle.script.specs.declared.patterns.Pattern.TheVariants.{Bits, Wrong}
 
 -- the digits read on from n
-unfoldable pub pattern_from : ℕ → List ℕ → Pattern
-pattern_from n [] = Bits n
-pattern_from n (b ∷ s) = cond (nat_lt 15 (digit_of b)) Wrong (pattern_from (n * 16 + digit_of b) s)
+unfoldable pub pattern_from : ℕ → List ℕ → Option ℕ
+pattern_from n [] = Some n
+pattern_from n (b ∷ s) = option_and_then (λ d. pattern_from (n * 16 + d) s) (digit_of b)
 
 -- exactly 16 digits
-unfoldable pub pattern_of : List ℕ → Pattern
-pattern_of digits = cond (length digits == 16) (pattern_from 0 digits) Wrong
+abbrev pub pattern_of : List ℕ → Option ℕ
+pattern_of digits = if length digits == 16 then pattern_from 0 digits else None

@@ -1,60 +1,41 @@
 // Text in lower-case hexadecimal digits, two to a byte.
-ghost use Rattle.std.specs.Prelude.{◌≡◌};
+ghost use Rattle.std.specs.Prelude.{◌≡◌, ◌<◌, IfOk, IfSome, option_map, vec_items};
 ghost use Rattle.script.specs.Hex.{digit_of, pair_of, decode_of};
 
-use crate::parts;
+use std::alloc::{AllocError, Global};
 
-// How many bytes the digits stand for, or that they are not whole pairs of digits.
-#[derive(Clone, Copy)]
-pub enum Decoded {
-    Bytes(usize),
-    Wrong,
-}
-
-// The value of a digit, or 16 for a byte that is none.
-pub fn digit(byte: u8) -> u8
-    ensures { result ≡ digit_of byte }
+// The value of a digit.
+pub(crate) fn digit(byte: u8) -> Option<u8>
+    ensures value { result ≡ digit_of byte }
+    ensures small { IfSome result (λ d. d < 16) }
 {
     match byte {
-        b'0'..=b'9' => byte - b'0',
-        b'a'..=b'f' => byte - b'a' + 10,
-        _ => 16,
+        b'0'..=b'9' => Some(byte - b'0'),
+        b'a'..=b'f' => Some(byte - b'a' + 10),
+        _ => None,
     }
 }
 
-// The byte that two digits stand for, or 256 where one is none.
-fn pair(high: u8, low: u8) -> u16
+// The byte that two digits stand for.
+fn pair(high: u8, low: u8) -> Option<u8>
     ensures { result ≡ pair_of high low }
 {
-    let h = digit(high);
-    let l = digit(low);
-    if h > 15 {
-        return 256;
-    }
-    if l > 15 {
-        return 256;
-    }
-    h as u16 * 16 + l as u16
+    Some(digit(high)? * 16 + digit(low)?)
 }
 
-// Puts the bytes that the digits stand for into text, as many as it has room for, and counts them all.
-pub fn decode(digits: &[u8], text: &mut [u8]) -> Decoded
-    ensures { (result, text.new) ≡ decode_of digits.now text.old }
+// The bytes that the digits stand for, where they are whole pairs of digits.
+#[tactic(auto, using(crate::proofs::Reading::goes), unfolding(crate::specs::Hex::decode_from))]
+pub fn decode(alloc: Global, digits: &[u8]) -> Result<Option<Vec<u8>>, AllocError>
+    ensures { IfOk result (λ text. option_map vec_items text ≡ decode_of digits.now) }
 {
-    let mut i = 0;
-    let mut n = 0;
-    while 1 < digits.len() - i {
-        let byte = pair(digits[i], digits[i + 1]);
-        if byte > 255 {
-            return Decoded::Wrong;
-        }
-        parts::put(text, n, byte as u8);
-        n += 1;
-        i += 2;
+    let mut text = Vec::new(alloc);
+    let mut rest = digits;
+    while let [high, low, behind @ ..] = rest {
+        let Some(byte) = pair(*high, *low) else {
+            return Ok(None);
+        };
+        text.push(byte)?;
+        rest = behind;
     }
-    if i < digits.len() {
-        Decoded::Wrong
-    } else {
-        Decoded::Bytes(n)
-    }
+    Ok(if rest.is_empty() { Some(text) } else { None })
 }

@@ -1,91 +1,54 @@
-// A line of a script, as its bytes come in.
-ghost use Rattle.std.specs.Prelude.{◌≡◌, length, slice_set};
-ghost use Rattle.script.specs.Hex.{digit_of};
-ghost use Rattle.script.specs.Lines.{with_byte_of, further_of, is_paired, is_complete};
+// The lines of an input, each ended by a line feed; a last line without one counts where it has bytes.
+ghost use Rattle.std.specs.Prelude.{◌≡◌, IfOk, IfSome, OnOk};
+ghost use Rattle.std.specs.Io.BufRead.{DropsThrough, strip_last};
+ghost use Rattle.script.specs.Lines.{line_feed, has_line, line_of};
 
-use crate::{hex, parts};
+use std::alloc::Global;
+use std::io;
+use std::io::{BufRead, BufReader, Read, Write};
 
-// What follows the bytes of a line that are kept. The digits are told apart by how many there are, so that a line of
-// any length is known to have whole pairs of digits, where an even number of bytes is kept.
-#[derive(Clone, Copy)]
-pub enum Beyond {
-    Nothing,
-    EvenDigits,
-    OddDigits,
-    Other,
+// The answer to a line that asks for nothing.
+pub const BAD_LINE: &str = "bad line";
+
+// Puts the next line into `line`, without its line feed, and says whether there is one.
+pub fn next_line<R: BufRead>(input: &mut R, line: &mut Vec<u8>) -> io::Result<bool>
+    ensures line { IfOk result (λ there. IfSome (R.remaining input.old) (λ bytes. (there ≡ has_line bytes) × (line.new.items ≡ line_of bytes))) }
+    ensures rest { OnOk result (DropsThrough (R.remaining input.old) (R.remaining input.new) line_feed) }
+{
+    line.clear();
+    let count = input.read_until(b'\n', line)?;
+    end_line(line);
+    Ok(count > 0)
 }
 
-// A line that has begun: how many of its bytes are kept, and what follows them.
-#[derive(Clone, Copy)]
-pub struct Line {
-    pub length: usize,
-    pub beyond: Beyond,
-}
-
-// A line of which nothing has come.
-pub fn empty() -> Line {
-    Line {
-        length: 0,
-        beyond: Beyond::Nothing,
+// Takes the line feed off.
+fn end_line(line: &mut Vec<u8>)
+    ensures { line.new.items ≡ strip_last line_feed line.old.items }
+{
+    if line.last() == Some(&b'\n') {
+        line.pop();
     }
 }
 
-// The line with one byte more, which is kept where there is room.
-pub fn with_byte(line: Line, kept: &mut [u8], byte: u8) -> Line
-    ensures { (result ≡ with_byte_of (length kept.old) line byte) × (kept.new ≡ slice_set kept.old line.length byte) }
+// Has each line of the input answered; what is answered is written before more input is waited for.
+pub fn answer_lines<R: Read + Drop, W: Write, F: FnMut(&[u8], &mut W) -> io::Result<()>>(
+    alloc: Global,
+    input: R,
+    out: &mut W,
+    mut answer: F,
+) -> io::Result<()>
+    requires { F.IsAlwaysCallable answer }
 {
-    let length = line.length;
-    let beyond = line.beyond;
-    parts::put(kept, length, byte);
-    if length < kept.len() {
-        Line {
-            length: length + 1,
-            beyond,
+    let mut input = BufReader::new(alloc, input)?;
+    let mut line = Vec::new(alloc);
+    for _ in 0..u64::MAX {
+        if !next_line(&mut input, &mut line)? {
+            break;
         }
-    } else {
-        Line {
-            length,
-            beyond: further(beyond, byte),
+        answer(&line, out)?;
+        if !input.buffer().contains(&b'\n') {
+            out.flush()?;
         }
     }
-}
-
-// What follows the kept bytes, with one byte more.
-fn further(beyond: Beyond, byte: u8) -> Beyond
-    ensures { result ≡ further_of beyond (digit_of byte) }
-{
-    if hex::digit(byte) < 16 {
-        match beyond {
-            Beyond::Nothing => Beyond::OddDigits,
-            Beyond::EvenDigits => Beyond::OddDigits,
-            Beyond::OddDigits => Beyond::EvenDigits,
-            Beyond::Other => Beyond::Other,
-        }
-    } else {
-        Beyond::Other
-    }
-}
-
-// Whether only whole pairs of digits follow.
-pub fn is_paired(beyond: Beyond) -> bool
-    ensures { result ≡ is_paired beyond }
-{
-    match beyond {
-        Beyond::Nothing => true,
-        Beyond::EvenDigits => true,
-        Beyond::OddDigits => false,
-        Beyond::Other => false,
-    }
-}
-
-// Whether nothing follows.
-pub fn is_complete(beyond: Beyond) -> bool
-    ensures { result ≡ is_complete beyond }
-{
-    match beyond {
-        Beyond::Nothing => true,
-        Beyond::EvenDigits => false,
-        Beyond::OddDigits => false,
-        Beyond::Other => false,
-    }
+    out.flush()
 }

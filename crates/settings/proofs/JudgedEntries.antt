@@ -1,106 +1,99 @@
 -- Windows and kills that are read pass refusal 29's judgement, and no list has more than 128.
-use Rattle.std.specs.Prelude.{◌≡◌, refl, Bool, true, false, ◌&&◌, cond, List, [], ◌∷◌, ◌++◌, map, ℕ, zero, suc, ◌+◌, ◌<◌, ◌≤◌, leb, ltb, eqb, length, take, set}
-use Rattle.std.proofs.Common.{ap, add-one, arith, le-leb, lt-ltb, ltb-true, leb-false, length-set, take-suc-set}
-use Rattle.numbers.specs.Limits.{max_exact, max_entries}
-use Rattle.numbers.specs.Refusals.{refused_window, refused_colon, refused_entries, refused_kill_parts}
-use Rattle.values.specs.declared.whole.Whole.{Whole}
-use Rattle.values.specs.Bytes.{has, before_first, behind_first, colon}
-use Rattle.values.specs.Laws.Digits.{bounded_or}
-use Rattle.values.specs.Laws.Parts.{three_or}
-use Rattle.values.specs.Parts.{split}
-use Rattle.settings.specs.declared.entries.Entries.{Entries}
-use Rattle.settings.specs.declared.entries.EntryKind.{EntryKind}
-use Rattle.settings.specs.declared.entries.EntryKind.TheVariants.{Blackout, Kill}
-use Rattle.settings.specs.declared.kill.KillRead.{KillRead}
-use Rattle.settings.specs.declared.kill.KillStyle.TheVariants.{Hold}
-use Rattle.settings.specs.declared.kill.StyleRead.{StyleRead}
-use Rattle.settings.specs.declared.kill.TcpKill.{TcpKill}
-use Rattle.settings.specs.declared.window.Window.{Window}
-use Rattle.settings.specs.declared.window.WindowRead.{WindowRead}
-use Rattle.settings.specs.Judgement.{is_window, is_kill, all_of, is_list}
-use Rattle.settings.specs.Lists.{held_of, window_of, parse_entry_of, no_entries, entered, with_entry, entries_from, entries_of}
-use Rattle.settings.specs.Windows.{bounds_of, bound_of, parse_window_of, parse_style_of, styled_of, kill_parts, parse_kill_of}
+use Rattle.std.specs.Prelude.{◌≡◌, refl, Bool, true, false, cond, Option, Some, None, Result, Ok, Err, IfOk, List, [], ◌∷◌, ◌++◌, ℕ, ◌+◌, ◌<◌, ◌≤◌, leb, ltb, length, take, set}
+use Rattle.std.proofs.Common.{add-one, arith, le-leb, lt-ltb, ltb-true, leb-false, length-set, take-suc-set}
 use Rattle.numbers.specs.Laws.Both.{both, both_true}
-use Rattle.settings.specs.Laws.Numbers.{bounded_is}
+use Rattle.numbers.specs.Laws.Results.{then_taken}
+use Rattle.numbers.specs.Limits.{max_entries}
+use Rattle.numbers.specs.Results.{and_then}
+use Rattle.numbers.specs.declared.refusal.Refusal.{Refusal}
+use Rattle.numbers.specs.declared.refusal.Refusal.TheVariants as refusal
+use Rattle.values.specs.Bytes.{split_once, colon}
+use Rattle.values.specs.Parts.{colons_of}
+use Rattle.values.specs.Whole.{is_bounded}
+use Rattle.settings.specs.declared.entries.Entries.{Entries}
+use Rattle.settings.specs.declared.kill.KillStyle.{KillStyle}
+use Rattle.settings.specs.declared.window.Window.{Window}
+use Rattle.settings.specs.Judgement.{is_window, is_kill, all_of, is_list}
+use Rattle.settings.specs.Lists.{no_entries, with_entry, with_value, entries_from, entries_of}
+use Rattle.settings.specs.Windows.{no_window, no_kill, bounds_of, bound_of, parted, parse_window_of, parse_style_of, kill_parts, kill_parted, parse_kill_of}
+use Rattle.settings.specs.Laws.Numbers.{bound_judged}
+use Rattle.values.specs.Blanks.{trimmed}
 
--- the window of two bounds passes, or there is a refusal
-bounds_or : (P : WindowRead → Type 0) → ((w : Window) → is_window w ≡ true → P (WindowRead.Taken w)) → ((k : ℕ) → P (WindowRead.Refused k)) → (a b : List ℕ) → P (bounds_of (bound_of a) (bound_of b))
-unfolding bounds_of
-bounds_or P taken turned a b =
-    bounded_or (λ (x : Whole). P (bounds_of x (bound_of b))) (λ s h. bounded_or (λ (y : Whole). P (bounds_of (Whole.Number s) y)) (λ e k. go s e h k (leb e s) refl) turned _) turned _
+-- the window of two bounds passes
+bounds_judged : (a b : List ℕ) → IfOk (bounds_of a b) (λ w. is_window w ≡ true)
+bounds_judged a b = then_taken _ _ (bound_of a) _ (bound_judged (trimmed a)) (λ s h. then_taken _ _ (bound_of b) _ (bound_judged (trimmed b)) (λ e k. go s e h k (leb e s) refl))
   where
-    go : (s e : ℕ) → s ≤ max_exact → e ≤ max_exact → (t : Bool) → leb e s ≡ t → P (cond t (WindowRead.Refused refused_window) (WindowRead.Taken (record { start_ms = s; end_ms = e })))
-    go s e h k true l = turned refused_window
-    go s e h k false l = taken _ (both _ _ (lt-ltb s e (leb-false e s l)) (both _ _ (bounded_is s h) (bounded_is e k)))
+    go : (s e : ℕ) → is_bounded s ≡ true → is_bounded e ≡ true → (t : Bool) → leb e s ≡ t
+        → IfOk (cond t (Err refusal.Window) (Ok (record { start_ms = s; end_ms = e }))) (λ w. is_window w ≡ true)
+    go s e h k true l = tt
+    go s e h k false l = both _ _ (lt-ltb s e (leb-false e s l)) (both _ _ h k)
 
--- an entry passes, or there is a refusal
-styled_or : (P : KillRead → Type 0) → ((k : TcpKill) → is_kill k ≡ true → P (KillRead.Taken k)) → ((k : ℕ) → P (KillRead.Refused k)) → (w : Window) → is_window w ≡ true → (s : StyleRead) → P (styled_of (WindowRead.Taken w) s)
-unfolding styled_of
-styled_or P taken turned w h (StyleRead.Refused k) = turned k
-styled_or P taken turned w h (StyleRead.Taken s) = taken _ h
-
--- a blackout is a window that holds
-held_or : (P : KillRead → Type 0) → ((k : TcpKill) → is_kill k ≡ true → P (KillRead.Taken k)) → ((k : ℕ) → P (KillRead.Refused k)) → (v : List ℕ) (t : Bool) → P (held_of (cond t (bounds_of (bound_of (before_first colon v)) (bound_of (behind_first colon v))) (WindowRead.Refused refused_colon)))
-unfolding held_of
-held_or P taken turned v true = bounds_or (λ (w : WindowRead). P (held_of w)) (λ w h. taken (record { window = w; style = Hold }) h) turned (before_first colon v) (behind_first colon v)
-held_or P taken turned v false = turned refused_colon
-
-entry_or : (P : KillRead → Type 0) → ((k : TcpKill) → is_kill k ≡ true → P (KillRead.Taken k)) → ((k : ℕ) → P (KillRead.Refused k)) → (kind : EntryKind) (v : List ℕ) → P (parse_entry_of kind v)
-unfolding parse_entry_of parse_window_of parse_kill_of styled_of
-entry_or P taken turned Blackout v = held_or P taken turned v (has colon v)
-entry_or P taken turned Kill v =
-    three_or kill_parts (KillRead.Refused refused_kill_parts) P
-    (λ a b c. bounds_or (λ (w : WindowRead). P (styled_of w (parse_style_of c))) (λ w h. styled_or P taken turned w h (parse_style_of c)) turned a b)
-    (turned refused_kill_parts) (split colon v)
-
-all_last : (l : List TcpKill) (k : TcpKill) → all_of is_kill l ≡ true → is_kill k ≡ true → all_of is_kill (l ++ (k ∷ [])) ≡ true
-all_last [] k h i = both _ _ i refl
-all_last (x ∷ l) k h i = both _ _ (both_true (is_kill x) (all_of is_kill l) h).0 (all_last l k (both_true (is_kill x) (all_of is_kill l) h).1 i)
-
--- what holds of the entries gathered so far
-record Judged (e : Entries) : Type 0 where
-  size : length e.kills ≡ max_entries
-  most : e.count ≤ max_entries
-  each : all_of is_kill (take e.count e.kills) ≡ true
-
-none_judged : (k : ℕ) → Judged (no_entries k)
-unfolding no_entries
-none_judged k = record { size = refl; most = omega arith; each = refl }
-
-entered_judged : (e : Entries) → Judged e → (k : TcpKill) → is_kill k ≡ true → (t : Bool) → ltb e.count max_entries ≡ t → Judged (cond t (record { kills = set e.kills e.count k; count = e.count + 1; refusal = 0 }) (no_entries refused_entries))
-entered_judged e j k h false l = none_judged refused_entries
-entered_judged e j k h true l =
-    let room : e.count < max_entries = ltb-true e.count max_entries l in
-    record {
-      size = rw length-set j.size;
-      most = omega arith;
-      each = rw (add-one, take-suc-set e.kills e.count k (omega (arith, j.size))) (all_last (take e.count e.kills) k j.each h);
-    }
-
-with_judged : (e : Entries) → Judged e → (kind : EntryKind) (v : List ℕ) → Judged (with_entry e (parse_entry_of kind v))
-unfolding with_entry
-with_judged e j kind v = go (eqb e.refusal 0)
+pub window_judged : (v : List ℕ) → IfOk (parse_window_of v) (λ w. is_window w ≡ true)
+window_judged v = go (split_once colon v)
   where
-    go : (t : Bool) → Judged (cond t (entered e (parse_entry_of kind v)) e)
-    go true = entry_or (λ (r : KillRead). Judged (entered e r)) (λ k h. entered_judged e j k h (ltb e.count max_entries) refl) none_judged kind v
-    go false = j
+    go : (o : Option (List ℕ × List ℕ)) → IfOk (parted o) (λ w. is_window w ≡ true)
+    go None = tt
+    go (Some p) = bounds_judged p.0 p.1
 
-from_judged : (kind : EntryKind) (vs : List (List ℕ)) (e : Entries) → Judged e → Judged (entries_from kind e vs)
-from_judged kind [] e j = j
-from_judged kind (v ∷ vs) e j = from_judged kind vs (with_entry e (parse_entry_of kind v)) (with_judged e j kind v)
+parts_judged : (a b c : List ℕ) → IfOk (kill_parts a b c) (λ k. is_kill k ≡ true)
+parts_judged a b c = then_taken _ _ (bounds_of a b) _ (bounds_judged a b) (λ w h. go w h (parse_style_of c))
+  where
+    go : (w : Window) → is_window w ≡ true → (r : Result KillStyle Refusal) → IfOk (and_then r (λ s. Ok (record { window = w; style = s }))) (λ k. is_kill k ≡ true)
+    go w h (Ok s) = h
+    go w h (Err k) = tt
 
-entries_judged : (kind : EntryKind) (vs : List (List ℕ)) → Judged (entries_of kind vs)
-unfolding entries_of
-entries_judged kind vs = from_judged kind vs (no_entries 0) (none_judged 0)
+pub kill_judged : (v : List ℕ) → IfOk (parse_kill_of v) (λ k. is_kill k ≡ true)
+kill_judged v = go (colons_of v)
+  where
+    go : (o : Option (List ℕ × List ℕ × List ℕ)) → IfOk (kill_parted o) (λ k. is_kill k ≡ true)
+    go None = tt
+    go (Some (a, b, c)) = parts_judged a b c
 
-pub kills_judged : (kind : EntryKind) (vs : List (List ℕ)) → is_list is_kill (entries_of kind vs).kills (entries_of kind vs).count ≡ true
-kills_judged kind vs = let j = entries_judged kind vs in both _ _ (le-leb _ max_entries j.most) j.each
+-- ---- lists of entries of any kind, each of which passes a test
 
--- the windows of kills pass as the kills do
-all_windows : (n : ℕ) (l : List TcpKill) → all_of is_window (take n (map window_of l)) ≡ all_of is_kill (take n l)
-all_windows zero l = refl
-all_windows (suc n) [] = refl
-all_windows (suc n) (k ∷ l) = ap (λ (t : Bool). is_kill k && t) (all_windows n l)
+module _ {E : Type 0} (passes : E → Bool) (parsed : List ℕ → Result E Refusal) (none : E) (each_passes : (v : List ℕ) → IfOk (parsed v) (λ e. passes e ≡ true)) where
+  all_last : (l : List E) (e : E) → all_of passes l ≡ true → passes e ≡ true → all_of passes (l ++ (e ∷ [])) ≡ true
+  all_last [] e h i = both _ _ i refl
+  all_last (x ∷ l) e h i = both _ _ (both_true (passes x) (all_of passes l) h).0 (all_last l e (both_true (passes x) (all_of passes l) h).1 i)
 
-pub windows_judged : (kind : EntryKind) (vs : List (List ℕ)) → is_list is_window (map window_of (entries_of kind vs).kills) (entries_of kind vs).count ≡ true
-windows_judged kind vs = rw (all_windows (entries_of kind vs).count (entries_of kind vs).kills) (kills_judged kind vs)
+  -- what holds of the entries gathered so far
+  record Judged (l : Entries E) : Type 0 where
+    size : length l.entries ≡ max_entries
+    most : l.count ≤ max_entries
+    each : all_of passes (take l.count l.entries) ≡ true
+
+  none_judged : Judged (no_entries none)
+  unfolding no_entries
+  none_judged = record { size = refl; most = omega arith; each = refl }
+
+  with_judged : (l : Entries E) → Judged l → (e : E) → passes e ≡ true → IfOk (with_entry l e) Judged
+  unfolding with_entry
+  with_judged l j e h = go (ltb l.count max_entries) refl
+    where
+      go : (t : Bool) → ltb l.count max_entries ≡ t → IfOk (cond t (Ok (record { entries = set l.entries l.count e; count = l.count + 1 })) (Err refusal.Entries)) Judged
+      go false q = tt
+      go true q =
+          let room : l.count < max_entries = ltb-true l.count max_entries q in
+          record {
+            size = rw length-set j.size;
+            most = omega arith;
+            each = rw (add-one, take-suc-set l.entries l.count e (omega (arith, j.size))) (all_last (take l.count l.entries) e j.each h);
+          }
+
+  from_judged : (vs : List (List ℕ)) (l : Entries E) → Judged l → IfOk (entries_from parsed l vs) Judged
+  from_judged [] l j = j
+  from_judged (v ∷ vs) l j = then_taken _ _ (with_value parsed l v) _ (then_taken _ _ (parsed v) _ (each_passes v) (λ e h. with_judged l j e h)) (λ m k. from_judged vs m k)
+
+  pub entries_judged : (vs : List (List ℕ)) → IfOk (entries_of parsed none vs) (λ l. is_list passes l.entries l.count ≡ true)
+  unfolding entries_of
+  entries_judged vs = go (entries_from parsed (no_entries none) vs) (from_judged vs (no_entries none) none_judged)
+    where
+      go : (r : Result (Entries E) Refusal) → IfOk r Judged → IfOk r (λ l. is_list passes l.entries l.count ≡ true)
+      go (Ok l) j = both _ _ (le-leb _ max_entries j.most) j.each
+      go (Err k) j = tt
+
+pub windows_judged : (vs : List (List ℕ)) → IfOk (entries_of parse_window_of no_window vs) (λ l. is_list is_window l.entries l.count ≡ true)
+windows_judged = entries_judged is_window parse_window_of no_window window_judged
+
+pub kills_judged : (vs : List (List ℕ)) → IfOk (entries_of parse_kill_of no_kill vs) (λ l. is_list is_kill l.entries l.count ≡ true)
+kills_judged = entries_judged is_kill parse_kill_of no_kill kill_judged

@@ -1,5 +1,3 @@
--- In order: Lists (a list made from another one entry by entry), and, towards refusal 29's judgement of one setting, Numbers
--- and Bursts; on Numbers stands proofs/JudgedEntries.antt.
-pub mod Lists
+-- Towards refusal 29's judgement of one setting, in order: Numbers, Bursts; on Numbers stands proofs/JudgedEntries.antt.
 pub mod Numbers
 pub mod Bursts

@@ -1,19 +1,18 @@
 -- Windows and kills: a window holds its start and not its end (document 01, "Arrival engine").
-use Rattle.std.specs.Prelude.{Bool, ◌&&◌, cond, List, ℕ, leb, Float}
+use Rattle.std.specs.Prelude.{Bool, ◌&&◌, cond, Option, Some, None, Result, Ok, Err, List, ℕ, leb, Float}
 use Rattle.std.specs.Float.Ieee.{le, lt}
-use Rattle.numbers.specs.Refusals.{refused_colon, refused_window, refused_kill_parts, refused_kill_style}
+use Rattle.numbers.specs.Results.{and_then}
 use Rattle.numbers.specs.Whole.{whole}
-use Rattle.values.specs.declared.whole.Whole.{Whole}
+use Rattle.numbers.specs.declared.refusal.Refusal.{Refusal}
+use Rattle.numbers.specs.declared.refusal.Refusal.TheVariants as refusal
 use Rattle.values.specs.Blanks.{trimmed}
-use Rattle.values.specs.Bytes.{bytes, same, has, before_first, behind_first, colon}
-use Rattle.values.specs.Parts.{split, three}
+use Rattle.values.specs.Bytes.{bytes, same, split_once, colon}
+use Rattle.values.specs.Parts.{colons_of}
 use Rattle.values.specs.Whole.{parse_bounded_of}
-use Rattle.settings.specs.declared.kill.KillRead.{KillRead}
+use Rattle.settings.specs.declared.kill.KillStyle.{KillStyle}
 use Rattle.settings.specs.declared.kill.KillStyle.TheVariants.{Rst, Hold}
-use Rattle.settings.specs.declared.kill.StyleRead.{StyleRead}
 use Rattle.settings.specs.declared.kill.TcpKill.{TcpKill}
 use Rattle.settings.specs.declared.window.Window.{Window}
-use Rattle.settings.specs.declared.window.WindowRead.{WindowRead}
 
 -- what fills the lists: an empty window, and a kill of it
 abbrev pub no_window : Window
@@ -25,32 +24,35 @@ no_kill = record { window = no_window; style = Hold }
 unfoldable pub contains_of : Window → Float → Bool
 contains_of w t = le (whole w.start_ms) t && lt t (whole w.end_ms)
 
--- the first of the two bounds that is refused counts, then 16, where the window is empty
-unfoldable pub bounds_of : Whole → Whole → WindowRead
-bounds_of (Whole.Refused k) end = WindowRead.Refused k
-bounds_of (Whole.Number s) (Whole.Refused k) = WindowRead.Refused k
-bounds_of (Whole.Number s) (Whole.Number e) = cond (leb e s) (WindowRead.Refused refused_window) (WindowRead.Taken (record { start_ms = s; end_ms = e }))
-
 -- a bound may have blanks around it
-abbrev pub bound_of : List ℕ → Whole
+abbrev pub bound_of : List ℕ → Result ℕ Refusal
 bound_of v = parse_bounded_of (trimmed v)
 
--- the first colon parts the bounds
-unfoldable pub parse_window_of : List ℕ → WindowRead
-parse_window_of v = cond (has colon v) (bounds_of (bound_of (before_first colon v)) (bound_of (behind_first colon v))) (WindowRead.Refused refused_colon)
+-- the first of the two bounds that is refused counts, then 16, where the window is empty
+abbrev pub bounds_of : List ℕ → List ℕ → Result Window Refusal
+bounds_of start end =
+    and_then (bound_of start) (λ s. and_then (bound_of end) (λ e.
+    cond (leb e s) (Err refusal.Window) (Ok (record { start_ms = s; end_ms = e }))))
 
-unfoldable pub parse_style_of : List ℕ → StyleRead
-parse_style_of v = cond (same v (bytes "rst")) (StyleRead.Taken Rst) (cond (same v (bytes "hold")) (StyleRead.Taken Hold) (StyleRead.Refused refused_kill_style))
+-- the first colon parts the bounds
+abbrev pub parted : Option (List ℕ × List ℕ) → Result Window Refusal
+parted None = Err refusal.Colon
+parted (Some p) = bounds_of p.0 p.1
+
+abbrev pub parse_window_of : List ℕ → Result Window Refusal
+parse_window_of v = parted (split_once colon v)
+
+abbrev pub parse_style_of : List ℕ → Result KillStyle Refusal
+parse_style_of v = cond (same v (bytes "rst")) (Ok Rst) (cond (same v (bytes "hold")) (Ok Hold) (Err refusal.KillStyle))
 
 -- the window first, then the style
-unfoldable pub styled_of : WindowRead → StyleRead → KillRead
-styled_of (WindowRead.Refused k) s = KillRead.Refused k
-styled_of (WindowRead.Taken w) (StyleRead.Refused k) = KillRead.Refused k
-styled_of (WindowRead.Taken w) (StyleRead.Taken s) = KillRead.Taken (record { window = w; style = s })
-
-abbrev pub kill_parts : List ℕ → List ℕ → List ℕ → KillRead
-kill_parts start end style = styled_of (bounds_of (bound_of start) (bound_of end)) (parse_style_of style)
+abbrev pub kill_parts : List ℕ → List ℕ → List ℕ → Result TcpKill Refusal
+kill_parts start end style = and_then (bounds_of start end) (λ w. and_then (parse_style_of style) (λ s. Ok (record { window = w; style = s })))
 
 -- colons part start, end and style; refusal 17 where they are not three
-unfoldable pub parse_kill_of : List ℕ → KillRead
-parse_kill_of v = three kill_parts (KillRead.Refused refused_kill_parts) (split colon v)
+abbrev pub kill_parted : Option (List ℕ × List ℕ × List ℕ) → Result TcpKill Refusal
+kill_parted None = Err refusal.KillParts
+kill_parted (Some (start, end, style)) = kill_parts start end style
+
+abbrev pub parse_kill_of : List ℕ → Result TcpKill Refusal
+parse_kill_of v = kill_parted (colons_of v)

@@ -1,14 +1,12 @@
-// What the text says of one option: a number, burst loss, or a list of windows or kills.
+// What the value of an option says: burst loss, a window or a kill, and the lists of windows and kills.
 #![tactic(auto)]
 
 mod entries;
 mod ge;
 mod kill;
-mod setting;
 mod window;
 
-pub use entries::{Entries, EntryKind, entries_at, windows_of};
-pub use ge::{Ge, GeOption, GeRead, ge_at};
+pub use entries::{Entries, Entry, entries_at};
+pub use ge::Ge;
 pub use kill::{KillStyle, TcpKill, no_kill};
-pub use setting::{Kind, Setting, earlier_of, float, refusal, setting_at, whole};
 pub use window::{Window, no_window};

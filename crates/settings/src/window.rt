@@ -2,21 +2,15 @@
 ghost use Rattle.std.specs.Prelude.{◌≡◌};
 ghost use Rattle.settings.specs.Windows.{no_window, contains_of, bounds_of, parse_window_of};
 
-use numbers::{REFUSED_COLON, REFUSED_WINDOW};
-use values::{Whole, behind, front, parse_bounded, trim, up_to};
+use crate::entries::Entry;
+use numbers::Refusal;
+use values::{parse_bounded, split_once, trim};
 
 // The milliseconds from start_ms on and before end_ms.
-#[derive(Clone, Copy)]
+#[derive(Clone, Copy, Debug, PartialEq, Eq)]
 pub struct Window {
     pub start_ms: u64,
     pub end_ms: u64,
-}
-
-// A window, or the number of the refusal.
-#[derive(Clone, Copy)]
-pub enum WindowRead {
-    Taken(Window),
-    Refused(u32),
 }
 
 // The empty window that fills a list.
@@ -29,47 +23,42 @@ pub fn no_window() -> Window
     }
 }
 
-// The window of two bounds that were read.
-pub(crate) fn bounds(start: Whole, end: Whole) -> WindowRead
-    ensures { result ≡ bounds_of start end }
-{
-    match start {
-        Whole::Refused(k) => WindowRead::Refused(k),
-        Whole::Number(start_ms) => match end {
-            Whole::Refused(k) => WindowRead::Refused(k),
-            Whole::Number(end_ms) => {
-                if end_ms <= start_ms {
-                    WindowRead::Refused(REFUSED_WINDOW)
-                } else {
-                    WindowRead::Taken(Window { start_ms, end_ms })
-                }
-            }
-        },
-    }
-}
-
 impl Window {
-    // START:END, each with blanks around it or none.
-    pub(crate) fn parse(v: &[u8]) -> WindowRead
-        ensures { result ≡ parse_window_of v.now }
+    // The window between two bounds, each with blanks around it or none.
+    pub(crate) fn between(start: &[u8], end: &[u8]) -> Result<Window, Refusal>
+        ensures { result ≡ bounds_of start.now end.now }
     {
-        let p = up_to(v, b':');
-        if v.len() <= p {
-            return WindowRead::Refused(REFUSED_COLON);
+        let start_ms = parse_bounded(trim(start))?;
+        let end_ms = parse_bounded(trim(end))?;
+        if end_ms <= start_ms {
+            return Err(Refusal::Window);
         }
-        let start = parse_bounded(trim(front(v, p)));
-        let end = parse_bounded(trim(behind(v, p)));
-        bounds(start, end)
+        Ok(Window { start_ms, end_ms })
     }
 
     // Whether the instant lies in the window.
+    #[tactic(auto, unfolding(crate::specs::Windows::contains_of))]
     pub fn contains(self, t_ms: f64) -> bool
         ensures { result ≡ contains_of self t_ms }
     {
-        if numbers::float_of(self.start_ms) <= t_ms {
-            t_ms < numbers::float_of(self.end_ms)
-        } else {
-            false
+        numbers::float_of(self.start_ms) <= t_ms && t_ms < numbers::float_of(self.end_ms)
+    }
+}
+
+impl Entry for Window {
+    ghost parsed_of = { parse_window_of };
+
+    ghost empty_of = { no_window };
+
+    fn empty() -> Window {
+        no_window()
+    }
+
+    // START:END.
+    fn parse(v: &[u8]) -> Result<Window, Refusal> {
+        match split_once(v, b':') {
+            None => Err(Refusal::Colon),
+            Some((start, end)) => Window::between(start, end),
         }
     }
 }

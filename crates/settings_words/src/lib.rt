@@ -2,9 +2,7 @@
 #![tactic(auto)]
 
 use numbers::MAX_ENTRIES;
-use options::{
-    Config, DirectionConfig, Ge, GeOption, KillStyle, Mode, MtuOption, RateOption, TcpKill, Window,
-};
+use options::{Config, DirectionConfig, Ge, KillStyle, Mode, TcpKill, Window};
 use output::collected;
 
 // The answer to an option text that is taken.
@@ -101,10 +99,10 @@ fn list(out: &mut [u8], at: usize, d: DirectionConfig, letter: u8) -> usize {
     }
 }
 
-fn burst_loss(out: &mut [u8], at: usize, ge: GeOption) -> usize {
+fn burst_loss(out: &mut [u8], at: usize, ge: Option<Ge>) -> usize {
     match ge {
-        GeOption::Absent => collected::text(out, at, b"none"),
-        GeOption::Present(g) => chances(out, at, g),
+        None => collected::text(out, at, b"none"),
+        Some(g) => chances(out, at, g),
     }
 }
 
@@ -114,17 +112,17 @@ fn chances(out: &mut [u8], at: usize, g: Ge) -> usize {
     float(out, end, b":", g.h)
 }
 
-fn rate_limit(out: &mut [u8], at: usize, rate: RateOption) -> usize {
+fn rate_limit(out: &mut [u8], at: usize, rate: Option<u64>) -> usize {
     match rate {
-        RateOption::Absent => collected::text(out, at, b"none"),
-        RateOption::Present(n) => collected::decimal(out, at, n),
+        None => collected::text(out, at, b"none"),
+        Some(n) => collected::decimal(out, at, n),
     }
 }
 
-fn packet_limit(out: &mut [u8], at: usize, mtu: MtuOption) -> usize {
+fn packet_limit(out: &mut [u8], at: usize, mtu: Option<usize>) -> usize {
     match mtu {
-        MtuOption::Absent => collected::text(out, at, b"none"),
-        MtuOption::Present(n) => collected::decimal(out, at, n as u64),
+        None => collected::text(out, at, b"none"),
+        Some(n) => collected::decimal(out, at, n as u64),
     }
 }
 

@@ -1,5 +1,5 @@
 -- A sound state stays one in an arrival, and a packet that it enqueues is not due before it.
-use Rattle.std.specs.Prelude.{◌≡◌, Bool, true, false, ℕ, ◌≤◌, pos, Float}
+use Rattle.std.specs.Prelude.{◌≡◌, Bool, true, false, ℕ, ◌≤◌, pos, Float, Option, Some, None}
 use Rattle.std.proofs.Math.Dec.{T}
 use Rattle.std.specs.Float.Ieee.{binary64, add, lt, le, of_int, fits}
 use Rattle.std.specs.Float.Ieee.Fits.{add-fits}
@@ -18,14 +18,11 @@ use Rattle.draws.proofs.Fraction.{draw_plus}
 use Rattle.values.specs.Whole.{is_bounded}
 use Rattle.settings.specs.Judgement.{is_time}
 use Rattle.judgement.specs.Scalars.{is_rate}
-use Rattle.options.specs.declared.config.RateOption.{RateOption}
-use Rattle.options.specs.declared.config.RateOption.TheVariants.{Absent, Present}
 use Rattle.steps.specs.declared.arrival.Arrival.{Arrival}
 use Rattle.steps.specs.declared.arrival.ArrivalState.{ArrivalState}
-use Rattle.judgement.specs.declared.scalars.DirectionScalars.{DirectionScalars}
+use Rattle.options.specs.declared.config.DirectionConfig.{DirectionConfig}
 use Rattle.steps.specs.declared.decision.Decision.{Decision}
 use Rattle.steps.specs.declared.decision.Decision.TheVariants.{DropRandom, DropGe, DropMtu, DropBlackout, DropKillHold, Enqueue, KillRst}
-use Rattle.steps.specs.declared.due.Due.{Due}
 use Rattle.steps.specs.declared.gate.Gate.{Gate}
 use Rattle.steps.specs.declared.gate.Gate.TheVariants.{Open, Reset, Held, Blackout}
 use Rattle.steps.specs.Chance.{chance_of}
@@ -36,8 +33,8 @@ use Rattle.steps.specs.Due.{jittered_of, reordered_of, waited_of, owed_of}
 use Rattle.steps.specs.Arrival.{stopped_of, drawn_of, scheduled_of, from_mtu, from_ge, passed_of, arrived_of}
 use Rattle.steps.specs.Laws.Credit.{longest_planned, charged_credit, wait_clear}
 
--- what refusal 29 lets through of the settings without their lists
-pub record SoundScalars (c : DirectionScalars) : Type 0 where
+-- what refusal 29 lets through of the settings that times, rate and burst are
+pub record SoundScalars (c : DirectionConfig) : Type 0 where
   pub delay : is_time c.delay_ms ≡ true
   pub jitter : is_time c.jitter_ms ≡ true
   pub reorder_delay : is_time c.reorder_delay_ms ≡ true
@@ -86,10 +83,10 @@ drawn_sound : (s : ArrivalState) (g : Rng) (bad : Bool) → SoundState s → Sou
 drawn_sound s g bad h = record { credit = h.credit; last_fit = h.last_fit; last = h.last }
 
 -- the last refill is the one before, or the arrival
-last_refill_has : (P : Float → Type 0) {last now : Float} (rate : RateOption) → P last → P now → P (last_refill_of last rate now)
+last_refill_has : (P : Float → Type 0) {last now : Float} (rate : Option ℕ) → P last → P now → P (last_refill_of last rate now)
 unfolding last_refill_of
-last_refill_has P Absent p q = p
-last_refill_has P (Present bps) p q = q
+last_refill_has P None p q = p
+last_refill_has P (Some bps) p q = q
 
 module _ {now : Float} (fit : T (fits binary64 now)) (bounded : Bounded now) where
   -- ---- the due
@@ -107,29 +104,29 @@ module _ {now : Float} (fit : T (fits binary64 now)) (bounded : Bounded now) whe
         later = le_trans (plus_finite_number bounded.clear) (plus_number d.clear) (plus_number more.0) d.later more.1;
       }
 
-  jittered_from : (g : Rng) {due : Float} (jitter : Float) → is_time jitter ≡ true → From now due → From now (jittered_of g due jitter).due_ms
+  jittered_from : (g : Rng) {due : Float} (jitter : Float) → is_time jitter ≡ true → From now due → From now (jittered_of g due jitter).1
   unfolding jittered_of
   jittered_from g jitter h d =
-      cond_when (λ (x : Due). From now x.due_ms) (lt (whole 0) jitter)
+      cond_when (λ (x : Rng × Float). From now x.1) (lt (whole 0) jitter)
       (λ t. later_by d (not_below_plus (mul_plus binary64 (draw_plus g) (time_above_zero jitter h t)))) d
 
   reordered_from : (hit : Bool) {due : Float} (delay : Float) → is_time delay ≡ true → From now due → From now (reordered_of hit due delay)
   unfolding reordered_of
   reordered_from hit delay h d = cond_has (From now) hit (later_by d (time_not_below delay h)) d
 
-  waited_from : {tokens due : Float} (rate : RateOption) → is_rate rate ≡ true → Credit tokens → T (lt tokens (whole 0)) → From now due
+  waited_from : {tokens due : Float} (rate : Option ℕ) → is_rate rate ≡ true → Credit tokens → T (lt tokens (whole 0)) → From now due
       → From now (waited_of tokens rate now due)
   unfolding waited_of
-  waited_from Absent h t l d = d
-  waited_from (Present bps) h t l d = chosen_has (From now) _ d (later_by at_once (not_below_plus (wait_clear bps h t l)))
+  waited_from None h t l d = d
+  waited_from (Some bps) h t l d = chosen_has (From now) _ d (later_by at_once (not_below_plus (wait_clear bps h t l)))
 
-  owed_from : {tokens due : Float} (rate : RateOption) → is_rate rate ≡ true → Credit tokens → From now due → From now (owed_of tokens rate now due)
+  owed_from : {tokens due : Float} (rate : Option ℕ) → is_rate rate ≡ true → Credit tokens → From now due → From now (owed_of tokens rate now due)
   unfolding owed_of
   owed_from {tokens} rate h t d = cond_when (From now) (lt tokens (whole 0)) (λ l. waited_from rate h t l d) d
 
   -- ---- the chain
 
-  module _ (c : DirectionScalars) (len : ℕ) (sound : SoundScalars c) (short : len ≤ longest_planned) where
+  module _ (c : DirectionConfig) (len : ℕ) (sound : SoundScalars c) (short : len ≤ longest_planned) where
     scheduled_sound : (s : ArrivalState) → SoundState s → Sound now (scheduled_of c s now len)
     unfolding scheduled_of
     scheduled_sound s h =
@@ -154,17 +151,17 @@ module _ {now : Float} (fit : T (fits binary64 now)) (bounded : Bounded now) whe
     unfolding from_ge stopped_of
     ge_sound s h =
         let burst = burst_loss_of s.rng s.ge_bad c.ge in
-        let after = drawn_sound s burst.rng burst.bad h in
-        cond_has (Sound now) burst.hit (after, tt) (mtu_sound _ after)
+        let after = drawn_sound s burst.0 burst.1 h in
+        cond_has (Sound now) burst.2 (after, tt) (mtu_sound _ after)
 
     passed_sound : (s : ArrivalState) → SoundState s → Sound now (passed_of c s now len)
     unfolding passed_of stopped_of
     passed_sound s h =
         let loss = chance_of s.rng c.loss in
-        let after = drawn_sound s loss.rng s.ge_bad h in
-        cond_has (Sound now) loss.hit (after, tt) (ge_sound _ after)
+        let after = drawn_sound s loss.0 s.ge_bad h in
+        cond_has (Sound now) loss.1 (after, tt) (ge_sound _ after)
 
-pub arrived_sound : (g : Gate) (c : DirectionScalars) (s : ArrivalState) (now : Float) (len : ℕ) → SoundScalars c → SoundState s → T (fits binary64 now) → Bounded now → len ≤ longest_planned
+pub arrived_sound : (g : Gate) (c : DirectionConfig) (s : ArrivalState) (now : Float) (len : ℕ) → SoundScalars c → SoundState s → T (fits binary64 now) → Bounded now → len ≤ longest_planned
     → SoundState (arrived_of g c s now len).state × DueFrom now (arrived_of g c s now len).decision
 unfolding arrived_of stopped_of
 arrived_sound Open c s now len sound h fit bounded short = passed_sound fit bounded c len sound short s h

@@ -1,6 +1,7 @@
 -- Steps 2 and 3 of an arrival (document 01, "Arrival engine"), over the counted entries of the lists.
-use Rattle.std.specs.Prelude.{Bool, true, false, ◌&&◌, ◌||◌, cond, List, [], ◌∷◌, Float}
+use Rattle.std.specs.Prelude.{Bool, true, false, ◌&&◌, cond, List, [], ◌∷◌, Float}
 use Rattle.std.specs.Bool.{beq}
+use Rattle.std.specs.List.{list_any}
 use Rattle.settings.specs.Windows.{contains_of}
 use Rattle.settings.specs.declared.kill.KillStyle.{KillStyle}
 use Rattle.settings.specs.declared.kill.KillStyle.TheVariants.{Rst, Hold}
@@ -20,8 +21,7 @@ kill_gate_of (k ∷ ks) now = cond (contains_of k.window now) (style_gate_of k.s
 
 -- whether some window holds the instant
 unfoldable pub any_window_of : List Window → Float → Bool
-any_window_of [] now = false
-any_window_of (w ∷ ws) now = contains_of w now || any_window_of ws now
+any_window_of ws now = list_any (λ w. contains_of w now) ws
 
 -- step 3: blackouts are asked where no kill decides
 unfoldable pub gate_of : Gate → Bool → Gate
@@ -36,5 +36,4 @@ is_rst_of Hold = false
 
 -- whether some kill that resets, or one that holds, has a window that holds the instant
 unfoldable pub kill_now_of : Bool → List TcpKill → Float → Bool
-kill_now_of rst [] now = false
-kill_now_of rst (k ∷ ks) now = (beq (is_rst_of k.style) rst && contains_of k.window now) || kill_now_of rst ks now
+kill_now_of rst ks now = list_any (λ k. beq (is_rst_of k.style) rst && contains_of k.window now) ks

@@ -1,8 +1,6 @@
 -- Step 6 of an arrival (document 01, "Arrival engine"), the MTU: what is longer does not pass.
-use Rattle.std.specs.Prelude.{Bool, false, ℕ, ltb}
-use Rattle.options.specs.declared.config.MtuOption.{MtuOption}
-use Rattle.options.specs.declared.config.MtuOption.TheVariants.{Absent, Present}
+use Rattle.std.specs.Prelude.{Bool, false, ℕ, ltb, Option, Some, None}
 
-unfoldable pub exceeds_of : MtuOption → ℕ → Bool
-exceeds_of Absent len = false
-exceeds_of (Present most) len = ltb most len
+unfoldable pub exceeds_of : Option ℕ → ℕ → Bool
+exceeds_of None len = false
+exceeds_of (Some most) len = ltb most len

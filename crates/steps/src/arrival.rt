@@ -6,7 +6,7 @@ use crate::decision::Decision;
 use crate::gate::Gate;
 use crate::{bucket, burst, chance, due, mtu};
 use draws::Rng;
-use judgement::DirectionScalars;
+use options::DirectionConfig;
 
 // What decides an arrival beside the settings, and is changed by it.
 #[derive(Clone, Copy)]
@@ -27,6 +27,7 @@ pub struct Arrival {
 }
 
 // The packet goes no further.
+#[tactic(auto, unfolding(crate::specs::Arrival::stopped_of))]
 fn stopped(state: ArrivalState, decision: Decision) -> Arrival
     ensures { result ≡ stopped_of state decision }
 {
@@ -39,74 +40,57 @@ fn stopped(state: ArrivalState, decision: Decision) -> Arrival
 }
 
 // Steps 7 to 11.
-fn scheduled(c: DirectionScalars, s: ArrivalState, now_ms: f64, len: usize) -> Arrival
-    ensures { result ≡ scheduled_of c s now_ms len }
+#[tactic(auto, unfolding(crate::specs::Arrival::scheduled_of))]
+fn scheduled(c: &DirectionConfig, s: ArrivalState, now_ms: f64, len: usize) -> Arrival
+    ensures { result ≡ scheduled_of c.now s now_ms len }
 {
     let rate = c.rate_bps;
-    let tokens = bucket::charged(
-        s.tokens,
-        s.last_refill_ms,
-        rate,
-        c.rate_burst_bytes,
-        now_ms,
-        len,
-    );
-    let last_refill_ms = bucket::last_refill(s.last_refill_ms, rate, now_ms);
-    let deferred = bucket::is_deferred(rate, tokens);
-    let before = s.rng;
-    let duplicate = chance::tried(before, c.duplicate_p);
-    let second = duplicate.rng;
-    let jitter = due::jittered(second, now_ms + c.delay_ms, c.jitter_ms);
-    let third = jitter.rng;
-    let reorder = chance::tried(third, c.reorder_p);
-    let rng = reorder.rng;
-    let put_off = due::reordered(reorder.hit, jitter.due_ms, c.reorder_delay_ms);
-    let due_ms = due::owed(tokens, rate, now_ms, put_off);
+    let burst = c.rate_burst_bytes;
+    let tokens = bucket::charged(s.tokens, s.last_refill_ms, rate, burst, now_ms, len);
+    let (rng, extra_dup) = chance::tried(s.rng, c.duplicate_p);
+    let (rng, delayed_ms) = due::jittered(rng, now_ms + c.delay_ms, c.jitter_ms);
+    let (rng, reordered) = chance::tried(rng, c.reorder_p);
+    let put_off_ms = due::reordered(reordered, delayed_ms, c.reorder_delay_ms);
+    let due_ms = due::owed(tokens, rate, now_ms, put_off_ms);
     Arrival {
         state: ArrivalState {
             rng,
             ge_bad: s.ge_bad,
             tokens,
-            last_refill_ms,
+            last_refill_ms: bucket::last_refill(s.last_refill_ms, rate, now_ms),
         },
-        decision: Decision::Enqueue {
-            due_ms,
-            extra_dup: duplicate.hit,
-        },
-        deferred,
-        reordered: reorder.hit,
+        decision: Decision::Enqueue { due_ms, extra_dup },
+        deferred: bucket::is_deferred(rate, tokens),
+        reordered,
     }
 }
 
 // Steps 4 to 6, and then the rest.
-fn passed(c: DirectionScalars, mut s: ArrivalState, now_ms: f64, len: usize) -> Arrival
-    ensures { result ≡ passed_of c s now_ms len }
+#[tactic(auto, unfolding(crate::specs::Arrival::passed_of, crate::specs::Arrival::from_ge, crate::specs::Arrival::from_mtu))]
+fn passed(c: &DirectionConfig, mut s: ArrivalState, now_ms: f64, len: usize) -> Arrival
+    ensures { result ≡ passed_of c.now s now_ms len }
 {
-    let before = s.rng;
-    let loss = chance::tried(before, c.loss);
-    let second = loss.rng;
-    s.rng = second;
-    if loss.hit {
+    let (rng, lost) = chance::tried(s.rng, c.loss);
+    s.rng = rng;
+    if lost {
         return stopped(s, Decision::DropRandom);
     }
-    let ge = c.ge;
-    let burst = burst::burst_loss(second, s.ge_bad, ge);
-    let third = burst.rng;
-    s.rng = third;
-    s.ge_bad = burst.bad;
-    if burst.hit {
+    let (rng, bad, burst_lost) = burst::burst_loss(rng, s.ge_bad, c.ge);
+    s.rng = rng;
+    s.ge_bad = bad;
+    if burst_lost {
         return stopped(s, Decision::DropGe);
     }
-    let most = c.mtu;
-    if mtu::exceeds(most, len) {
+    if mtu::exceeds(c.mtu, len) {
         return stopped(s, Decision::DropMtu);
     }
     scheduled(c, s, now_ms, len)
 }
 
 // What becomes of an arrival, once the windows have been asked.
-pub fn arrived(gate: Gate, c: DirectionScalars, s: ArrivalState, now_ms: f64, len: usize) -> Arrival
-    ensures { result ≡ arrived_of gate c s now_ms len }
+#[tactic(auto, unfolding(crate::specs::Arrival::arrived_of))]
+pub fn arrived(gate: Gate, c: &DirectionConfig, s: ArrivalState, now_ms: f64, len: usize) -> Arrival
+    ensures { result ≡ arrived_of gate c.now s now_ms len }
 {
     match gate {
         Gate::Open => passed(c, s, now_ms, len),

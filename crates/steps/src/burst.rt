@@ -3,31 +3,19 @@ ghost use Rattle.std.specs.Prelude.{◌≡◌, cond, not};
 ghost use Rattle.steps.specs.Burst.{lost_of, burst_loss_of};
 
 use draws::Rng;
-use settings::GeOption;
+use settings::Ge;
 
-// The generator, whether the state is bad now, and whether the packet is lost.
-#[derive(Clone, Copy)]
-pub struct Burst {
-    pub rng: Rng,
-    pub bad: bool,
-    pub hit: bool,
-}
-
-// A draw may turn the state, and a bad state draws again, for the packet.
-pub(crate) fn burst_loss(rng: Rng, bad: bool, ge: GeOption) -> Burst
+// The generator, whether the state is bad now, and whether the packet is lost: a draw may turn the state, and a bad state draws again, for the packet.
+#[tactic(auto, unfolding(crate::specs::Burst::burst_loss_of))]
+pub(crate) fn burst_loss(rng: Rng, bad: bool, ge: Option<Ge>) -> (Rng, bool, bool)
     ensures { result ≡ burst_loss_of rng bad ge }
 {
     match ge {
-        GeOption::Absent => Burst {
-            rng,
-            bad,
-            hit: false,
-        },
-        GeOption::Present(g) => {
-            let drawn = rng.next_f64();
-            let after = drawn.rng;
-            let flip = drawn.value < flip_chance(bad, g.p, g.r);
-            lost(after, turned(bad, flip), g.h)
+        None => (rng, bad, false),
+        Some(g) => {
+            let (rng, draw) = rng.next_f64();
+            let flip = draw < flip_chance(bad, g.p, g.r);
+            lost(rng, turned(bad, flip), g.h)
         }
     }
 }
@@ -46,22 +34,14 @@ fn turned(bad: bool, flip: bool) -> bool
 }
 
 // In the bad state a draw against h says whether the packet is lost.
-fn lost(rng: Rng, now_bad: bool, h: f64) -> Burst
+#[tactic(auto, unfolding(crate::specs::Burst::lost_of))]
+fn lost(rng: Rng, now_bad: bool, h: f64) -> (Rng, bool, bool)
     ensures { result ≡ lost_of rng now_bad h }
 {
     if now_bad {
-        let drawn = rng.next_f64();
-        let after = drawn.rng;
-        Burst {
-            rng: after,
-            bad: now_bad,
-            hit: drawn.value < h,
-        }
+        let (rng, draw) = rng.next_f64();
+        (rng, now_bad, draw < h)
     } else {
-        Burst {
-            rng,
-            bad: now_bad,
-            hit: false,
-        }
+        (rng, now_bad, false)
     }
 }

@@ -4,25 +4,15 @@ ghost use Rattle.steps.specs.Chance.{chance_of};
 
 use draws::Rng;
 
-// The generator, and whether the draw was below the probability.
-#[derive(Clone, Copy)]
-pub struct Chance {
-    pub rng: Rng,
-    pub hit: bool,
-}
-
-// One draw, and none where the probability is not above 0.
-pub(crate) fn tried(rng: Rng, p: f64) -> Chance
+// The generator after one draw, and whether the draw was below the probability; no draw is made where that is not above 0.
+#[tactic(auto, using(numbers::specs::Laws::Literals::zero_is), unfolding(crate::specs::Chance::chance_of))]
+pub(crate) fn tried(rng: Rng, p: f64) -> (Rng, bool)
     ensures { result ≡ chance_of rng p }
 {
     if p > 0.0 {
-        let drawn = rng.next_f64();
-        let after = drawn.rng;
-        Chance {
-            rng: after,
-            hit: drawn.value < p,
-        }
+        let (rng, draw) = rng.next_f64();
+        (rng, draw < p)
     } else {
-        Chance { rng, hit: false }
+        (rng, false)
     }
 }

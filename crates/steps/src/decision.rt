@@ -3,7 +3,7 @@ ghost use Rattle.std.specs.Prelude.{◌≡◌};
 ghost use Rattle.steps.specs.Decision.{is_drop_of};
 
 // It is dropped for a reason, or enqueued with its due and whether it is duplicated, or its connection is reset.
-#[derive(Clone, Copy)]
+#[derive(Clone, Copy, Debug, PartialEq)]
 pub enum Decision {
     DropRandom,
     DropGe,
@@ -15,17 +15,10 @@ pub enum Decision {
 }
 
 impl Decision {
+    #[tactic(auto, unfolding(crate::specs::Decision::is_drop_of))]
     pub fn is_drop(self) -> bool
         ensures { result ≡ is_drop_of self }
     {
-        match self {
-            Decision::DropRandom => true,
-            Decision::DropGe => true,
-            Decision::DropMtu => true,
-            Decision::DropBlackout => true,
-            Decision::DropKillHold => true,
-            Decision::Enqueue { .. } => false,
-            Decision::KillRst => false,
-        }
+        !matches!(self, Decision::Enqueue { .. } | Decision::KillRst)
     }
 }

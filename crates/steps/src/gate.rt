@@ -2,12 +2,10 @@
 ghost use Rattle.std.specs.Prelude.{◌≡◌, take};
 ghost use Rattle.steps.specs.Gate.{is_rst_of, style_gate_of, kill_gate_of, kill_now_of};
 
-use crate::entries::entry_count;
-use numbers::MAX_ENTRIES;
 use settings::{KillStyle, TcpKill};
 
 // No window stops a packet, or a kill resets or holds, or a blackout drops.
-#[derive(Clone, Copy)]
+#[derive(Clone, Copy, Debug, PartialEq, Eq)]
 pub enum Gate {
     Open,
     Reset,
@@ -15,60 +13,50 @@ pub enum Gate {
     Blackout,
 }
 
-fn style_gate(style: KillStyle) -> Gate
-    ensures { result ≡ style_gate_of style }
-{
-    match style {
-        KillStyle::Rst => Gate::Reset,
-        KillStyle::Hold => Gate::Held,
+impl From<KillStyle> for Gate {
+    ghost from_gives = { λ style gate. gate ≡ style_gate_of style };
+
+    #[tactic(auto, unfolding(crate::specs::Gate::style_gate_of))]
+    fn from(style: KillStyle) -> Gate {
+        match style {
+            KillStyle::Rst => Gate::Reset,
+            KillStyle::Hold => Gate::Held,
+        }
     }
 }
 
+#[tactic(auto, unfolding(crate::specs::Gate::is_rst_of))]
 fn is_rst(style: KillStyle) -> bool
     ensures { result ≡ is_rst_of style }
 {
-    match style {
-        KillStyle::Rst => true,
-        KillStyle::Hold => false,
-    }
+    matches!(style, KillStyle::Rst)
 }
 
-// What the first kill says whose window holds the instant.
-pub fn kill_gate(kills: [TcpKill; MAX_ENTRIES], count: usize, now_ms: f64) -> Gate
-    ensures { result ≡ kill_gate_of (take count kills) now_ms }
+// What the first kill says whose window holds the instant. The loop breaks with its index: document 01 gives this place that form.
+#[tactic(auto, unfolding(crate::specs::Gate::kill_gate_of))]
+pub fn kill_gate(kills: &[TcpKill], count: usize, now_ms: f64) -> Gate
+    ensures { result ≡ kill_gate_of (take count kills.now) now_ms }
 {
-    let n = entry_count(count);
-    let mut i: usize = 0;
-    while i < n {
-        let kill = kills[i];
-        let window = kill.window;
-        if window.contains(now_ms) {
+    let mut deciding = None;
+    for i in 0..count.min(kills.len()) {
+        if kills[i].window.contains(now_ms) {
+            deciding = Some(i);
             break;
         }
-        i += 1;
     }
-    if i < n {
-        let deciding = kills[i];
-        let style = deciding.style;
-        return style_gate(style);
+    match deciding {
+        Some(i) => Gate::from(kills[i].style),
+        None => Gate::Open,
     }
-    Gate::Open
 }
 
-// Whether the instant lies in the window of some kill that resets, or of some kill that holds bytes back.
-pub fn kill_now(kills: [TcpKill; MAX_ENTRIES], count: usize, rst: bool, now_ms: f64) -> bool
-    ensures { result ≡ kill_now_of rst (take count kills) now_ms }
+// Whether the instant lies in the window of some counted kill that resets, or of some that holds bytes back.
+#[tactic(auto, unfolding(crate::specs::Gate::kill_now_of))]
+pub fn kill_now(kills: &[TcpKill], count: usize, rst: bool, now_ms: f64) -> bool
+    ensures { result ≡ kill_now_of rst (take count kills.now) now_ms }
 {
-    let n = entry_count(count);
-    let mut i: usize = 0;
-    while i < n {
-        let kill = kills[i];
-        let window = kill.window;
-        let style = kill.style;
-        if (is_rst(style) == rst) & window.contains(now_ms) {
-            return true;
-        }
-        i += 1;
-    }
-    false
+    kills
+        .iter()
+        .take(count)
+        .any(|k| is_rst(k.style) == rst && k.window.contains(now_ms))
 }

@@ -8,7 +8,6 @@ mod burst;
 mod chance;
 mod decision;
 mod due;
-mod entries;
 mod gate;
 mod mtu;
 

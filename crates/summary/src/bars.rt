@@ -1,36 +1,30 @@
-// The bars of a histogram. `out` and `at` are those of output::collected.
-use crate::aligned;
+// The bars of a histogram.
+use std::fmt;
 
 // The longest bar.
 const COLUMNS: u64 = 40;
 
 // How many packets a sign of a bar stands for at most, where the fullest bucket has so many.
 pub fn packets_per_sign(fullest: u64) -> u64 {
-    share(fullest, COLUMNS)
+    fullest.div_ceil(COLUMNS)
 }
 
-// The packets of a bucket and its bar.
-pub fn show(out: &mut [u8], at: usize, n: u64, fullest: u64) -> usize {
-    let end = aligned::count(out, at, n);
-    if n > 0 {
-        let blanks = aligned::repeated(out, end, b' ', 0, 2);
-        aligned::repeated(
-            out,
-            blanks,
-            b'#',
-            0,
-            share(n, packets_per_sign(fullest)) as usize,
-        )
-    } else {
-        end
-    }
+// The packets of a bucket in their column and their bar.
+#[derive(Clone, Copy)]
+pub struct Bar {
+    pub packets: u64,
+    pub per_sign: u64,
 }
 
-// How many parts of this size hold n, the last of them begun.
-fn share(n: u64, size: u64) -> u64 {
-    if n > 0 && size > 0 {
-        std::num::wrapping_add_u64((n - 1) / size, 1)
-    } else {
-        0
+impl fmt::Display for Bar {
+    fn fmt<W: fmt::Write>(&self, f: &mut fmt::Formatter<W>) -> fmt::Result {
+        write!(f, "{:>12}", self.packets)?;
+        if self.packets > 0 {
+            f.write_str("  ")?;
+        }
+        for _ in 0..self.packets.div_ceil(self.per_sign.max(1)) {
+            f.write_str("#")?;
+        }
+        Ok(())
     }
 }

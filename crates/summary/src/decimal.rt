@@ -1,77 +1,101 @@
-// Floats in decimal. `out` and `at` are those of output::collected.
+// Floats in decimal.
 use crate::digits::{BEFORE, Digits};
-use crate::{aligned, digits};
-use output::collected;
+use std::fmt;
 
-// The columns of a count, and four more for the point and three places behind it.
+// The columns of a time: those of a count, and four more for the point and three places behind it.
 const COLUMNS: usize = 16;
 
-// The bit of the sign, and the bits of an infinity; those of a NaN are more.
+// The bit of the sign.
 const SIGN: u64 = 0x8000_0000_0000_0000;
 
-const INFINITE: u64 = 0x7ff0_0000_0000_0000;
+// A time with three places behind the point, its unit in the column where a count has it.
+#[derive(Clone, Copy)]
+pub struct Thousandths(pub f64);
 
-// The float of these bits with three places behind the point, its units in the column where a count has them.
-pub fn thousandths(out: &mut [u8], at: usize, bits: u64) -> usize {
-    let mut word = [0u8; 400];
-    let length = put(&mut word, bits);
-    aligned::right(out, at, COLUMNS, values::front(&word, length))
-}
-
-fn put(word: &mut [u8], bits: u64) -> usize {
-    let size = bits % SIGN;
-    if size > INFINITE {
-        return collected::text(word, 0, b"not a number");
-    }
-    let start = sign(word, 0, bits);
-    if size < INFINITE {
-        let rounded = digits::rounded(digits::digits_of(size), BEFORE + 3);
-        number(word, start, rounded, BEFORE + 3)
-    } else {
-        collected::text(word, start, b"infinite")
-    }
-}
-
-// The float of these bits, which is no infinity and no NaN, in at most fifteen digits: those that an option's value was written with.
-pub fn fifteen_digits(out: &mut [u8], at: usize, bits: u64) -> usize {
-    let exact = digits::digits_of(bits % SIGN);
-    let rounded = digits::rounded(exact, digits::fifteen(exact));
-    let start = sign(out, at, bits);
-    number(out, start, rounded, digits::used(rounded))
-}
-
-fn sign(out: &mut [u8], at: usize, bits: u64) -> usize {
-    if bits < SIGN {
-        at
-    } else {
-        collected::text(out, at, b"-")
+impl fmt::Display for Thousandths {
+    fn fmt<W: fmt::Write>(&self, f: &mut fmt::Formatter<W>) -> fmt::Result {
+        if self.0.is_nan() {
+            return write!(f, "{:>COLUMNS$}", "not a number");
+        }
+        let bits = self.0.to_bits();
+        if self.0.is_infinite() {
+            let word = if bits < SIGN { "infinite" } else { "-infinite" };
+            return write!(f, "{word:>COLUMNS$}");
+        }
+        let count = BEFORE + 3;
+        let number = Decimal {
+            is_negative: bits >= SIGN,
+            digits: Digits::of(bits % SIGN).rounded(count),
+            count,
+        };
+        for _ in number.len()..COLUMNS {
+            f.write_str(" ")?;
+        }
+        write!(f, "{number}")
     }
 }
 
-// So many digits from the first that is not 0, or from the units.
-fn number(out: &mut [u8], at: usize, digits: Digits, count: usize) -> usize {
-    let end = whole_part(out, at, digits, count);
-    if count > BEFORE {
-        let point = collected::text(out, end, b".");
-        numerals(out, point, digits, BEFORE, count)
-    } else {
-        end
+// The float of these bits in at most fifteen digits: those that an option's value was written with.
+#[derive(Clone, Copy)]
+pub struct FifteenDigits(pub u64);
+
+impl fmt::Display for FifteenDigits {
+    fn fmt<W: fmt::Write>(&self, f: &mut fmt::Formatter<W>) -> fmt::Result {
+        let exact = Digits::of(self.0 % SIGN);
+        let digits = exact.rounded(exact.fifteen());
+        let number = Decimal {
+            is_negative: self.0 >= SIGN,
+            digits,
+            count: digits.used(),
+        };
+        write!(f, "{number}")
     }
 }
 
-// A zero before the point is left out where it would be the sixteenth digit.
-fn whole_part(out: &mut [u8], at: usize, digits: Digits, count: usize) -> usize {
-    if count < BEFORE + 15 {
-        numerals(out, at, digits, digits::zeros(digits), BEFORE)
-    } else {
-        at
+// A number by its first digits.
+#[derive(Clone, Copy)]
+struct Decimal {
+    is_negative: bool,
+    digits: Digits,
+    count: usize,
+}
+
+impl Decimal {
+    // The digits before the point; a zero is left out where it would be the sixteenth digit.
+    fn whole(&self) -> &[u8] {
+        if self.count < BEFORE + 15 {
+            self.digits.before_point()
+        } else {
+            &[]
+        }
+    }
+
+    // How many characters it has.
+    fn len(&self) -> usize {
+        let places = self.digits.behind_point(self.count).len();
+        let point = usize::from(places > 0);
+        usize::from(self.is_negative)
+            .saturating_add(self.whole().len())
+            .saturating_add(point)
+            .saturating_add(places)
     }
 }
 
-fn numerals(out: &mut [u8], at: usize, digits: Digits, from: usize, to: usize) -> usize {
-    let mut end = at;
-    for i in from..to {
-        end = collected::byte(out, end, digits::numeral_at(digits, i));
+impl fmt::Display for Decimal {
+    fn fmt<W: fmt::Write>(&self, f: &mut fmt::Formatter<W>) -> fmt::Result {
+        if self.is_negative {
+            f.write_str("-")?;
+        }
+        for digit in self.whole() {
+            write!(f, "{digit}")?;
+        }
+        let places = self.digits.behind_point(self.count);
+        if !places.is_empty() {
+            f.write_str(".")?;
+        }
+        for digit in places {
+            write!(f, "{digit}")?;
+        }
+        Ok(())
     }
-    end
 }

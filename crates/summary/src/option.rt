@@ -1,130 +1,129 @@
-// A setting as an argument. `out` and `at` are those of output::collected.
-use crate::{decimal, parts};
-use output::collected;
-use script::Pattern;
-use values::{after, behind, front, is_same, up_to};
+// A setting as an argument.
+use crate::decimal::FifteenDigits;
+use script::{patterns, words};
+use std::io::Write;
+use std::{fmt, io};
 
-// `brackets` is 0 for what both directions share, 1 for client to server and 2 for server to client. A setting of a direction that is not set is left out.
-pub fn show(out: &mut [u8], at: usize, brackets: u64, word: &[u8]) -> usize {
-    let equals = up_to(word, b'=');
-    let value = behind(word, equals);
-    if equals == word.len() {
-        entry(out, at, brackets, word)
-    } else if is_unset(value) & (brackets > 0) {
-        at
-    } else {
-        named(out, at, brackets, front(word, equals), value)
+// What a setting is for.
+#[derive(Clone, Copy, PartialEq, Eq)]
+pub enum Direction {
+    Both,
+    ClientToServer,
+    ServerToClient,
+}
+
+impl Direction {
+    // The direction of a setting behind so many opening brackets.
+    pub fn of(opened: usize) -> Self {
+        match opened {
+            0 => Direction::Both,
+            1 => Direction::ClientToServer,
+            _ => Direction::ServerToClient,
+        }
     }
+}
+
+// What the keys of its options begin with.
+impl fmt::Display for Direction {
+    fn fmt<W: fmt::Write>(&self, f: &mut fmt::Formatter<W>) -> fmt::Result {
+        f.write_str(match self {
+            Direction::Both => "",
+            Direction::ClientToServer => "c2s-",
+            Direction::ServerToClient => "s2c-",
+        })
+    }
+}
+
+// How an argument has the value of a setting: as it stands, or in decimal what stands as bits.
+#[derive(Clone, Copy)]
+enum Form {
+    Same,
+    Decimal,
+}
+
+// A setting of one direction that is not set is left out.
+pub fn show<W: Write>(out: &mut W, direction: Direction, word: &[u8]) -> io::Result<()> {
+    let (name, value) = words::split_at_byte(word, b'=');
+    let Some(value) = value else {
+        return show_window(out, direction, word);
+    };
+    if direction != Direction::Both && is_unset(value) {
+        return Ok(());
+    }
+    let (key, form) = key_of(name);
+    show_argument(out, direction, key, form, value)
 }
 
 fn is_unset(value: &[u8]) -> bool {
-    is_same(value, b"none") | is_same(value, b"0") | is_same(value, b"0000000000000000")
+    matches!(value, b"none" | b"0" | b"0000000000000000")
 }
 
 // A blackout or a kill: a letter, and then the window as the argument has it.
-fn entry(out: &mut [u8], at: usize, brackets: u64, word: &[u8]) -> usize {
-    if parts::byte_at(word, 0) == b'b' {
-        argument(out, at, brackets, b"blackout", b'w', after(word, 1))
-    } else {
-        argument(out, at, brackets, b"kill", b'w', after(word, 1))
+fn show_window<W: Write>(out: &mut W, direction: Direction, word: &[u8]) -> io::Result<()> {
+    match word {
+        [b'b', window @ ..] => show_argument(out, direction, "blackout", Form::Same, window),
+        [_, window @ ..] => show_argument(out, direction, "kill", Form::Same, window),
+        [] => show_argument(out, direction, "kill", Form::Same, word),
     }
 }
 
-// The name in an answer, f for floats or w for what stands as it is, and the key of the option.
-fn named(out: &mut [u8], at: usize, brackets: u64, name: &[u8], value: &[u8]) -> usize {
-    keyed(
-        out,
-        at,
-        brackets,
-        name,
-        value,
-        b"mode w mode
-seed w seed
-duration w duration-ms
-verbose w verbose
-cap w queue-cap
-loss f loss
-ge f ge
-delay f delay-ms
-jitter f jitter-ms
-reorder f reorder
-rdelay f reorder-delay-ms
-dup f duplicate
-rate w rate-bps
-burst w rate-burst-bytes
-mtu w mtu
-nat w nat-change-every-ms
-",
-    )
+// The key of the option whose setting has this name in an answer.
+fn key_of(name: &[u8]) -> (&'static str, Form) {
+    match name {
+        b"mode" => ("mode", Form::Same),
+        b"seed" => ("seed", Form::Same),
+        b"duration" => ("duration-ms", Form::Same),
+        b"verbose" => ("verbose", Form::Same),
+        b"cap" => ("queue-cap", Form::Same),
+        b"loss" => ("loss", Form::Decimal),
+        b"ge" => ("ge", Form::Decimal),
+        b"delay" => ("delay-ms", Form::Decimal),
+        b"jitter" => ("jitter-ms", Form::Decimal),
+        b"reorder" => ("reorder", Form::Decimal),
+        b"rdelay" => ("reorder-delay-ms", Form::Decimal),
+        b"dup" => ("duplicate", Form::Decimal),
+        b"rate" => ("rate-bps", Form::Same),
+        b"burst" => ("rate-burst-bytes", Form::Same),
+        b"mtu" => ("mtu", Form::Same),
+        b"nat" => ("nat-change-every-ms", Form::Same),
+        _ => ("", Form::Same),
+    }
 }
 
-fn keyed(
-    out: &mut [u8],
-    at: usize,
-    brackets: u64,
-    name: &[u8],
+fn show_argument<W: Write>(
+    out: &mut W,
+    direction: Direction,
+    key: &str,
+    form: Form,
     value: &[u8],
-    table: &[u8],
-) -> usize {
-    let line = parts::part_at(table, parts::line_of(table, name), b'\n');
-    let rest = script::rest(line);
-    argument(
-        out,
-        at,
-        brackets,
-        script::rest(rest),
-        parts::byte_at(rest, 0),
-        value,
-    )
-}
-
-fn argument(out: &mut [u8], at: usize, brackets: u64, key: &[u8], kind: u8, value: &[u8]) -> usize {
-    let mut end = prefix(out, at, brackets);
-    end = collected::text(out, end, key);
-    end = collected::text(out, end, b"=");
-    end = value_text(out, end, kind, value);
-    collected::text(out, end, b"\n")
-}
-
-fn prefix(out: &mut [u8], at: usize, brackets: u64) -> usize {
-    match brackets {
-        0 => collected::text(out, at, b"  --"),
-        1 => collected::text(out, at, b"  --c2s-"),
-        _ => collected::text(out, at, b"  --s2c-"),
+) -> io::Result<()> {
+    write!(out, "  --{direction}{key}=")?;
+    match form {
+        Form::Same => out.write_all(value)?,
+        Form::Decimal => show_decimals(out, value)?,
     }
+    writeln!(out)
 }
 
-// The value: of kind f floats by their bits, which are shown in decimal.
-fn value_text(out: &mut [u8], at: usize, kind: u8, value: &[u8]) -> usize {
-    if kind == b'f' {
-        floats(out, at, value)
-    } else {
-        collected::text(out, at, value)
+// Floats, which colons part; a colon that no float stands before is not shown.
+fn show_decimals<W: Write>(out: &mut W, value: &[u8]) -> io::Result<()> {
+    for part in value.split_inclusive(|byte| *byte == b':') {
+        match part {
+            b":" => (),
+            [float @ .., b':'] => {
+                show_decimal(out, float)?;
+                out.write_all(b":")?;
+            }
+            float => show_decimal(out, float)?,
+        }
     }
+    Ok(())
 }
 
-fn floats(out: &mut [u8], at: usize, value: &[u8]) -> usize {
-    let mut end = at;
-    for i in 0..value.len() {
-        end = float_at(out, end, value, i);
-    }
-    end
-}
-
-// The float that begins at this place, or the colon that parts two.
-fn float_at(out: &mut [u8], at: usize, value: &[u8], place: usize) -> usize {
-    if parts::begins(value, place, b':') {
-        float(out, at, parts::part_at(value, place, b':'))
-    } else if parts::byte_at(value, place) == b':' {
-        collected::text(out, at, b":")
-    } else {
-        at
-    }
-}
-
-fn float(out: &mut [u8], at: usize, word: &[u8]) -> usize {
-    match script::pattern_of(word) {
-        Pattern::Bits(bits) => decimal::fifteen_digits(out, at, bits),
-        Pattern::Wrong => collected::text(out, at, word),
+// A word that is not the bits of a float stands as it is.
+fn show_decimal<W: Write>(out: &mut W, word: &[u8]) -> io::Result<()> {
+    match patterns::pattern_of(word) {
+        Some(bits) => write!(out, "{}", FifteenDigits(bits)),
+        None => out.write_all(word),
     }
 }

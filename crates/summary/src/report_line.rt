@@ -1,114 +1,139 @@
 // The numbers of a report line.
-use script::Pattern;
-use values::Whole;
+use script::{patterns, words};
 
-// How many words stand behind the first.
-pub const WORDS: usize = 34;
-
-// Where the number of latencies stands among them, the first of the twelve buckets, the first of the three floats, and the numbers of copies held and torn.
-pub const LATENCIES: usize = 14;
-
-pub const BUCKETS: usize = 15;
-
-pub const TIMES: usize = 27;
-
-pub const HELD: usize = 31;
-
-pub const TORN: usize = 33;
-
-// The bits that stand for every NaN.
-pub const NOT_A_NUMBER: u64 = 0x7ff8_0000_0000_0000;
-
-// The numbers in the order of the words, the floats by their bits, and 0 for the words `held` and `torn`; and whether all words are what they should be.
+// Packets and their bytes.
 #[derive(Clone, Copy)]
-pub struct ReportLine {
-    pub numbers: [u64; WORDS],
-    pub is_report: bool,
+pub struct Traffic {
+    pub packets: u64,
+    pub bytes: u64,
 }
 
-// A word's number, or that the word is not what stands at its place.
+// Packets that were dropped, by the cause.
 #[derive(Clone, Copy)]
-enum Field {
-    Number(u64),
-    Wrong,
+pub struct Drops {
+    pub random: u64,
+    pub burst: u64,
+    pub mtu: u64,
+    pub blackout: u64,
 }
 
-// Reads what stands behind the first word.
-pub fn read(line: &[u8]) -> ReportLine {
-    let mut numbers = [0u64; WORDS];
-    let mut is_report = true;
-    let mut from = 0;
-    for i in 0..WORDS {
-        let rest = values::after(line, from);
-        let length = values::up_to(rest, b' ');
-        let field = field_at(i, values::front(rest, length));
-        numbers[i] = number_of(field);
-        is_report = is_report & is_number(field);
-        from = next(from, length);
-    }
-    ReportLine {
-        numbers,
-        is_report: is_report & (from > line.len()),
-    }
+// The latencies of what was sent: how many, how many in each bucket, and their sum, least and greatest in milliseconds.
+#[derive(Clone, Copy)]
+pub struct Latencies {
+    pub count: u64,
+    pub buckets: [u64; 12],
+    pub sum: f64,
+    pub least: f64,
+    pub greatest: f64,
 }
 
-// Where the word behind one of this length begins.
-fn next(from: usize, length: usize) -> usize {
-    std::num::wrapping_add_usize(std::num::wrapping_add_usize(from, length), 1)
+#[derive(Clone, Copy)]
+pub struct Report {
+    pub received: Traffic,
+    pub sent: Traffic,
+    pub dropped: Drops,
+    pub overflowed: u64,
+    pub duplicated: u64,
+    pub reordered: u64,
+    pub deferred: u64,
+    pub changes_of_address: u64,
+    pub reset: u64,
+    pub latencies: Latencies,
+    pub held: u64,
+    pub torn: u64,
 }
 
-fn number_of(field: Field) -> u64 {
-    match field {
-        Field::Number(n) => n,
-        Field::Wrong => 0,
-    }
-}
-
-fn is_number(field: Field) -> bool {
-    match field {
-        Field::Number(_) => true,
-        Field::Wrong => false,
-    }
-}
-
-// What the word at this place stands for.
-fn field_at(i: usize, word: &[u8]) -> Field {
-    match i {
-        27..=29 => bits_of(word),
-        30 => named(word, b"held"),
-        32 => named(word, b"torn"),
-        _ => count_of(word),
-    }
-}
-
-// A count below 2^60: no report has another, and so no sum of counts wraps.
-fn count_of(word: &[u8]) -> Field {
-    match values::parse_u64(word) {
-        Whole::Number(n) => {
-            if numbers::is_counter(n) {
-                Field::Number(n)
-            } else {
-                Field::Wrong
-            }
+impl Report {
+    // What stands behind the first word of a report line, in the order of its words.
+    pub fn read(line: &[u8]) -> Option<Self> {
+        let mut words = Words { left: Some(line) };
+        let report = Report {
+            received: words.traffic()?,
+            sent: words.traffic()?,
+            dropped: words.drops()?,
+            overflowed: words.count()?,
+            duplicated: words.count()?,
+            reordered: words.count()?,
+            deferred: words.count()?,
+            changes_of_address: words.count()?,
+            reset: words.count()?,
+            latencies: words.latencies()?,
+            held: words.count_named(b"held")?,
+            torn: words.count_named(b"torn")?,
+        };
+        if words.left.is_none() {
+            Some(report)
+        } else {
+            None
         }
-        Whole::Refused(_) => Field::Wrong,
     }
 }
 
-fn bits_of(word: &[u8]) -> Field {
-    if values::is_same(word, b"nan") {
-        return Field::Number(NOT_A_NUMBER);
-    }
-    match script::pattern_of(word) {
-        Pattern::Bits(bits) => Field::Number(bits),
-        Pattern::Wrong => Field::Wrong,
-    }
+// The words of a line that are not read yet, if there are any.
+#[derive(Drop)]
+struct Words<'a> {
+    left: Option<&'a [u8]>,
 }
 
-fn named(word: &[u8], name: &[u8]) -> Field {
-    if values::is_same(word, name) {
-        Field::Number(0)
-    } else {
-        Field::Wrong
+impl<'a> Words<'a> {
+    fn next(&mut self) -> Option<&'a [u8]> {
+        let (word, left) = words::split_word(self.left?);
+        self.left = left;
+        Some(word)
+    }
+
+    // A count below 2^60: no report has another, and so no sum of counts wraps.
+    fn count(&mut self) -> Option<u64> {
+        words::whole_of(self.next()?).filter(|count| numbers::is_counter(*count))
+    }
+
+    fn count_named(&mut self, name: &[u8]) -> Option<u64> {
+        if self.next()? == name {
+            self.count()
+        } else {
+            None
+        }
+    }
+
+    // A time by its bits, or the word nan.
+    fn time(&mut self) -> Option<f64> {
+        match self.next()? {
+            b"nan" => Some(f64::NAN),
+            word => patterns::float_of(word),
+        }
+    }
+
+    fn traffic(&mut self) -> Option<Traffic> {
+        Some(Traffic {
+            packets: self.count()?,
+            bytes: self.count()?,
+        })
+    }
+
+    fn drops(&mut self) -> Option<Drops> {
+        Some(Drops {
+            random: self.count()?,
+            burst: self.count()?,
+            mtu: self.count()?,
+            blackout: self.count()?,
+        })
+    }
+
+    fn latencies(&mut self) -> Option<Latencies> {
+        Some(Latencies {
+            count: self.count()?,
+            buckets: self.buckets()?,
+            sum: self.time()?,
+            least: self.time()?,
+            greatest: self.time()?,
+        })
+    }
+
+    fn buckets(&mut self) -> Option<[u64; 12]> {
+        let mut buckets = [0; 12];
+        for bucket in buckets.iter_mut() {
+            *bucket = self.count()?;
+        }
+        Some(buckets)
     }
 }

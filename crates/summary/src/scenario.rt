@@ -1,50 +1,25 @@
-// The settings of a `taken` line as the arguments that give them. `out` and `at` are those of output::collected.
-use crate::{option, parts};
-use output::collected;
-use script::answers;
+// The settings of a `taken` line as the arguments that give them.
+use crate::option;
+use crate::option::Direction;
+use script::words;
+use std::io;
+use std::io::Write;
 
-// `rest` is what stands behind the line's first word.
-pub fn show(out: &mut [u8], at: usize, number: u64, rest: &[u8]) -> usize {
-    let mut end = answers::numbered(out, at, b"line", number);
-    end = collected::text(out, end, b", taken:\n");
-    end = options(out, end, rest);
-    collected::text(out, end, b"\n")
-}
-
-// Each word is a setting; a bracket opens a direction.
-fn options(out: &mut [u8], at: usize, words: &[u8]) -> usize {
-    let mut end = at;
-    let mut brackets = 0;
-    for i in 0..words.len() {
-        brackets = counted(brackets, words[i]);
-        end = word_at(out, end, brackets, words, i);
+// `rest` is what stands behind the line's first word: each of its words is a setting, and a bracket opens a direction.
+pub fn show<W: Write>(out: &mut W, number: u64, rest: &[u8]) -> io::Result<()> {
+    writeln!(out, "line {number}, taken:")?;
+    let mut opened = 0usize;
+    for word in rest.split_inclusive(|byte| *byte == b' ') {
+        let direction = Direction::of(opened.saturating_add(usize::from(word.starts_with(b"["))));
+        option::show(out, direction, bare(word))?;
+        opened = opened.saturating_add(word.iter().filter(|byte| **byte == b'[').count());
     }
-    end
+    writeln!(out)
 }
 
-// The setting whose word begins at this place, where one does.
-fn word_at(out: &mut [u8], at: usize, brackets: u64, words: &[u8], place: usize) -> usize {
-    if parts::begins(words, place, b' ') {
-        option::show(out, at, brackets, bare(parts::part_at(words, place, b' ')))
-    } else {
-        at
-    }
-}
-
-fn counted(brackets: u64, byte: u8) -> u64 {
-    if byte == b'[' {
-        std::num::wrapping_add_u64(brackets, 1)
-    } else {
-        brackets
-    }
-}
-
-// The word without its brackets.
+// The word without its brackets and the blank behind it.
 fn bare(word: &[u8]) -> &[u8] {
-    let inner = values::front(word, values::up_to(word, b']'));
-    if parts::byte_at(inner, 0) == b'[' {
-        values::after(inner, 1)
-    } else {
-        inner
-    }
+    let word = word.strip_suffix(b" ").unwrap_or(word);
+    let (inner, _) = words::split_at_byte(word, b']');
+    inner.strip_prefix(b"[").unwrap_or(inner)
 }

@@ -1,4 +1,3 @@
-pub mod KeySteps
 pub mod PathSteps
 pub mod GrowthSteps
 pub mod CallSteps

@@ -7,5 +7,7 @@ mod climb;
 mod growth;
 mod key;
 mod nodes;
+mod tree;
 
-pub use calls::{enter, fits, least, leave};
+pub use calls::{fits, least};
+pub use tree::{Tree, TreeMut};

@@ -1,5 +1,5 @@
 -- Lists of bytes.
-use Rattle.std.specs.Prelude.{ℕ, suc, ◌+◌, Bool, true, false, cond, ◌&&◌, List, [], ◌∷◌, length, take, drop, ◌==◌, nat_lt}
+use Rattle.std.specs.Prelude.{ℕ, suc, ◌+◌, Bool, true, false, cond, ◌&&◌, List, [], ◌∷◌, length, take, drop, Option, Some, None, ◌==◌, nat_lt}
 use Prim.Native.Char.{code}
 use Prim.Native.String.{String, [] as empty, ◌∷◌ as ◌then◌}
 
@@ -23,6 +23,11 @@ before_first b s = take (up_to b s) s
 abbrev pub behind_first : ℕ → List ℕ → List ℕ
 behind_first b s = drop (up_to b s + 1) s
 
+-- what stands before and behind the first b, where there is one
+abbrev pub split_once : ℕ → List ℕ → Option (List ℕ × List ℕ)
+split_once b s = cond (has b s) (Some (before_first b s, behind_first b s)) None
+
+-- whether two lists are the same
 abbrev pub same : List ℕ → List ℕ → Bool
 same [] [] = true
 same [] (y ∷ t) = false

@@ -1,7 +1,5 @@
 -- The parts of a value that colons part.
-use Rattle.std.specs.Prelude.{ℕ, cond, List, [], ◌∷◌, length, ◌==◌}
-use Rattle.values.specs.declared.colons.Colons.{Colons}
-use Rattle.values.specs.declared.colons.Colons.TheVariants.{Two, Other}
+use Rattle.std.specs.Prelude.{ℕ, cond, List, [], ◌∷◌, Option, Some, None, ◌==◌}
 use Rattle.values.specs.Bytes.{colon}
 
 -- x in front of the first part
@@ -22,9 +20,6 @@ three f other (a ∷ b ∷ []) = other
 three f other (a ∷ b ∷ c ∷ []) = f a b c
 three f other (a ∷ b ∷ c ∷ d ∷ ps) = other
 
--- how long the first two of three parts are
-abbrev pub two_lengths : List ℕ → List ℕ → List ℕ → Colons
-two_lengths a b c = Two (length a) (length b)
-
-unfoldable pub colons_of : List ℕ → Colons
-colons_of v = three two_lengths Other (split colon v)
+-- the three parts of a value that has so many
+unfoldable pub colons_of : List ℕ → Option (List ℕ × List ℕ × List ℕ)
+colons_of v = three (λ a b c. Some (a, b, c)) None (split colon v)

@@ -1,17 +1,16 @@
 -- What the steps of reading a decimal give; a reader of the definitions does not need it.
-use Rattle.std.specs.Prelude.{ℕ, List}
+use Rattle.std.specs.Prelude.{ℕ, List, Float, Result, Ok, Err}
 use Rattle.numbers.specs.Digits.{decimal_value}
-use Rattle.numbers.specs.Refusals.{refused_decimal}
-use Rattle.values.specs.declared.decimal.Decimal.{Decimal}
-use Rattle.values.specs.declared.whole.Whole.{Whole}
+use Rattle.numbers.specs.declared.refusal.Refusal.{Refusal}
+use Rattle.numbers.specs.declared.refusal.Refusal.TheVariants as refusal
 use Rattle.values.specs.Whole.{digits_from}
 
 -- digits behind those that were read to a number
-abbrev pub read_on : Whole → List ℕ → Whole
-read_on (Whole.Number n) s = digits_from n s
-read_on (Whole.Refused k) s = Whole.Refused k
+abbrev pub read_on : Result ℕ Refusal → List ℕ → Result ℕ Refusal
+read_on (Ok n) s = digits_from n s
+read_on (Err e) s = Err e
 
 -- digits that were read, over 10 ^ k
-unfoldable pub over_ten : Whole → ℕ → Decimal
-over_ten (Whole.Number n) k = Decimal.Number (decimal_value n k)
-over_ten (Whole.Refused _) k = Decimal.Refused refused_decimal
+unfoldable pub over_ten : Result ℕ Refusal → ℕ → Result Float Refusal
+over_ten (Ok n) k = Ok (decimal_value n k)
+over_ten (Err _) k = Err refusal.Decimal

@@ -1,51 +1,44 @@
 // Blanks around a window's bounds.
-ghost use Rattle.std.specs.Prelude.{◌≡◌, length};
+ghost use Rattle.std.specs.Prelude.{◌≡◌, drop};
 ghost use Rattle.values.specs.Blanks.{is_blank, blanks, trim_end, trimmed};
-
-use crate::bytes::{after, front};
 
 fn is_blank(b: u8) -> bool
     ensures { result ≡ is_blank b }
 {
-    if b == b' ' {
-        true
-    } else {
-        if 9 <= b { b <= 13 } else { false }
-    }
+    matches!(b, b' ' | 9..=13)
 }
 
-// How many blanks stand in front.
-fn blanks_of(s: &[u8]) -> usize
-    ensures { result ≡ blanks s.now }
+// The bytes without the blanks in front.
+fn trim_start(s: &[u8]) -> &[u8]
+    ensures { result.now ≡ drop (blanks s.now) s.now }
 {
-    let mut i: usize = 0;
-    while i < s.len() {
-        if !is_blank(s[i]) {
+    let mut left = s;
+    while let Some((first, rest)) = left.split_first() {
+        if !is_blank(*first) {
             break;
         }
-        i += 1;
+        left = rest;
     }
-    i
+    left
 }
 
-// How many bytes are left without the blanks at the end.
-fn trimmed_length(s: &[u8]) -> usize
-    ensures { result ≡ length (trim_end s.now) }
+// The bytes without the blanks at the end.
+fn trim_end(s: &[u8]) -> &[u8]
+    ensures { result.now ≡ trim_end s.now }
 {
-    let mut n = s.len();
-    while 0 < n {
-        if !is_blank(s[n - 1]) {
+    let mut left = s;
+    while let Some((last, rest)) = left.split_last() {
+        if !is_blank(*last) {
             break;
         }
-        n -= 1;
+        left = rest;
     }
-    n
+    left
 }
 
 // The bytes without the blanks around them.
 pub fn trim(s: &[u8]) -> &[u8]
     ensures { result.now ≡ trimmed s.now }
 {
-    let t = after(s, blanks_of(s));
-    front(t, trimmed_length(t))
+    trim_end(trim_start(s))
 }

@@ -1,26 +1,20 @@
 // Parts of a list of bytes, and where a byte stands.
-ghost use Rattle.std.specs.Prelude.{◌≡◌, ◌+◌, take, drop};
-ghost use Rattle.values.specs.Bytes.{up_to, same};
+ghost use Rattle.std.specs.Prelude.{◌≡◌, ◌==◌, take, drop, position};
+ghost use Rattle.std.specs.Option.{option_map};
+ghost use Rattle.values.specs.Bytes.{up_to, before_first, behind_first, split_once};
 
-// The bytes from `from` on; none where it is past the end.
+// The bytes from `from` on; none where it is past the end. Beside `front` a function of its own, since a caller's count may be any and std's ranges ask that it fits.
 pub fn after(s: &[u8], from: usize) -> &[u8]
     ensures { result.now ≡ drop from s.now }
 {
-    if from <= s.len() { &s[from..] } else { &s[..0] }
+    s.get(from..).unwrap_or(&[])
 }
 
 // The first n bytes, or all where there are fewer.
 pub fn front(s: &[u8], n: usize) -> &[u8]
     ensures { result.now ≡ take n s.now }
 {
-    if n <= s.len() { &s[..n] } else { s }
-}
-
-// The bytes behind the one at n.
-pub fn behind(s: &[u8], n: usize) -> &[u8]
-    ensures { result.now ≡ drop (n + 1) s.now }
-{
-    if n < s.len() { &s[n + 1..] } else { &s[..0] }
+    s.get(..n).unwrap_or(s)
 }
 
 // The len bytes from `from` on, or fewer where they end before.
@@ -30,33 +24,38 @@ pub fn part(s: &[u8], from: usize, len: usize) -> &[u8]
     front(after(s, from), len)
 }
 
+// Where the first b stands.
+fn place_of(s: &[u8], b: u8) -> Option<usize>
+    ensures { result ≡ position (λ x. x == b) s.now }
+{
+    s.iter().position(|x| *x == b)
+}
+
 // How many bytes stand before the first b.
 pub fn up_to(s: &[u8], b: u8) -> usize
     ensures { result ≡ up_to b s.now }
 {
-    let mut i: usize = 0;
-    while i < s.len() {
-        if s[i] == b {
-            break;
-        }
-        i += 1;
-    }
-    i
+    place_of(s, b).unwrap_or(s.len())
 }
 
-// Whether two lists of bytes are the same.
-pub fn is_same(a: &[u8], b: &[u8]) -> bool
-    ensures { result ≡ same a.now b.now }
+// What stands before the first b and behind it, where there is one.
+pub fn split_once(s: &[u8], b: u8) -> Option<(&[u8], &[u8])>
+    ensures { option_map (λ p. (p.0.now, p.1.now)) result ≡ split_once b s.now }
 {
-    if a.len() != b.len() {
-        return false;
-    }
-    let mut i: usize = 0;
-    while i < a.len() {
-        if a[i] != b[i] {
-            return false;
-        }
-        i += 1;
-    }
-    true
+    let at = place_of(s, b)?;
+    Some((&s[..at], &s[at + 1..]))
+}
+
+// What stands before the first b, or all where there is none.
+pub fn before_first(s: &[u8], b: u8) -> &[u8]
+    ensures { result.now ≡ before_first b s.now }
+{
+    front(s, up_to(s, b))
+}
+
+// What stands behind the first b; nothing where there is none.
+pub fn behind_first(s: &[u8], b: u8) -> &[u8]
+    ensures { result.now ≡ behind_first b s.now }
+{
+    split_once(s, b).map_or(&[], |parts| parts.1)
 }

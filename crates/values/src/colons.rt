@@ -1,31 +1,18 @@
 // The colons that part a value.
 ghost use Rattle.std.specs.Prelude.{◌≡◌};
+ghost use Rattle.std.specs.Option.{option_map};
 ghost use Rattle.values.specs.Parts.{colons_of};
 
-use crate::bytes::{behind, up_to};
+use crate::bytes::split_once;
 
-// Whether a value has exactly three parts, and how long the first two are.
-#[derive(Clone, Copy)]
-pub enum Colons {
-    Two(usize, usize),
-    Other,
-}
-
-pub fn colons_of(v: &[u8]) -> Colons
-    ensures { result ≡ colons_of v.now }
+// The parts of a value that has exactly three.
+pub fn three_parts(v: &[u8]) -> Option<(&[u8], &[u8], &[u8])>
+    ensures { option_map (λ p. (p.0.now, p.1.now, p.2.now)) result ≡ colons_of v.now }
 {
-    let p = up_to(v, b':');
-    if v.len() <= p {
-        return Colons::Other;
+    let (first, rest) = split_once(v, b':')?;
+    let (second, third) = split_once(rest, b':')?;
+    if third.contains(&b':') {
+        return None;
     }
-    let w = behind(v, p);
-    let q = up_to(w, b':');
-    if w.len() <= q {
-        return Colons::Other;
-    }
-    let x = behind(w, q);
-    if up_to(x, b':') < x.len() {
-        return Colons::Other;
-    }
-    Colons::Two(p, q)
+    Some((first, second, third))
 }

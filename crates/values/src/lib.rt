@@ -9,7 +9,7 @@ mod digits;
 mod whole;
 
 pub use blanks::trim;
-pub use bytes::{after, behind, front, is_same, part, up_to};
-pub use colons::{Colons, colons_of};
-pub use decimal::{Decimal, parse_f64_ms, parse_prob};
-pub use whole::{Whole, parse_bounded, parse_positive, parse_u64};
+pub use bytes::{after, before_first, behind_first, front, part, split_once, up_to};
+pub use colons::three_parts;
+pub use decimal::{parse_f64_ms, parse_prob};
+pub use whole::{parse_bounded, parse_positive, parse_u64};

@@ -26,21 +26,18 @@ pub fn long_run(seed: u64) {
     output::text(b"accounts_run");
     output::hex(seed);
     output::hex(run.fold);
-    let merged = run.accountant.merge_into(run.stats);
-    records::stats(merged.stats);
+    let (merged, _) = run.accountant.merge_into(run.stats);
+    records::stats(merged);
 }
 
 // One latency more, of a size that the first draw gives and a part of it that the second gives.
 fn step(run: Run) -> Run {
-    let size = run.rng.next_u64();
-    let part = size.rng.next_f64();
-    let scale = size.value % 16384;
-    let latency_ms = (part.value - 0.1) * std::num::nearest_u64_to_f64(scale);
-    let sent = run.accountant.on_send((scale % 2048) as usize, latency_ms);
-    let updated = run.stats.record_delivered(latency_ms * 0.5);
-    let rng = part.rng;
-    let accountant = sent.accountant;
-    let stats = updated.stats;
+    let (rng, size) = run.rng.next_u64();
+    let (rng, part) = rng.next_f64();
+    let scale = size % 16384;
+    let latency_ms = (part - 0.1) * std::num::nearest_u64_to_f64(scale);
+    let (accountant, _) = run.accountant.on_send((scale % 2048) as usize, latency_ms);
+    let (stats, _) = run.stats.record_delivered(latency_ms * 0.5);
     Run {
         rng,
         accountant,

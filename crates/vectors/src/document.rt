@@ -3,13 +3,13 @@ use draws::Rng;
 
 // The generator of seed 1 after one draw: its state and output, and whether loss 0.25 and 0.3 drop.
 pub fn seed_one() {
-    let drawn = Rng::new(1).next_u64();
+    let (after, value) = Rng::new(1).next_u64();
     output::text(b"seed 1");
-    output::hex(drawn.rng.state);
-    output::hex(drawn.value);
-    let draw = Rng::new(1).next_f64();
-    output::flag(draw.value < 25.0 / 100.0);
-    output::flag(draw.value < 3.0 / 10.0);
+    output::hex(after.state);
+    output::hex(value);
+    let (_, draw) = Rng::new(1).next_f64();
+    output::flag(draw < 25.0 / 100.0);
+    output::flag(draw < 3.0 / 10.0);
     output::end();
 }
 

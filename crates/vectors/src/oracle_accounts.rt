@@ -122,8 +122,7 @@ pub fn long_runs() {
 
 // Sends a packet, prints the accountant, and gives it back.
 fn send(a: SendAccountant, len: usize, latency_ms: f64) -> SendAccountant {
-    let sent = a.on_send(len, latency_ms);
-    let after = sent.accountant;
+    let (after, _) = a.on_send(len, latency_ms);
     output::text(b"on_send");
     output::count(len as u64);
     output::float(latency_ms);
@@ -133,8 +132,7 @@ fn send(a: SendAccountant, len: usize, latency_ms: f64) -> SendAccountant {
 
 // Counts a delivered packet, prints the statistics, and gives them back.
 fn deliver(s: DirectionStats, latency_ms: f64) -> DirectionStats {
-    let updated = s.record_delivered(latency_ms);
-    let after = updated.stats;
+    let (after, _) = s.record_delivered(latency_ms);
     output::text(b"record_delivered");
     output::float(latency_ms);
     records::stats(after);
@@ -148,9 +146,9 @@ fn merge(s: DirectionStats, mut a: SendAccountant) {
         l.max_ms = s.latency_max_ms;
     }
     a.latency = l;
-    let merged = a.merge_into(s);
+    let (merged, _) = a.merge_into(s);
     output::text(b"merge_into");
-    records::stats(merged.stats);
+    records::stats(merged);
 }
 
 fn total(s: DirectionStats) {

@@ -40,9 +40,9 @@ fn outputs(rng: Rng) -> Rng {
 }
 
 fn output(rng: Rng) -> Rng {
-    let drawn = rng.next_u64();
-    output::hex(drawn.value);
-    drawn.rng
+    let (after, value) = rng.next_u64();
+    output::hex(value);
+    after
 }
 
 // Prints four draws, and gives the next generator.
@@ -51,9 +51,9 @@ fn fractions(rng: Rng) -> Rng {
 }
 
 fn fraction(rng: Rng) -> Rng {
-    let drawn = rng.next_f64();
-    output::float(drawn.value);
-    drawn.rng
+    let (after, draw) = rng.next_f64();
+    output::float(draw);
+    after
 }
 
 fn direction_seeds(seed: u64) {
@@ -87,13 +87,12 @@ fn long_run(seed: u64) -> u64 {
 // Folds in the direction seed of the next output, with the fold as its salt, and the bits of the draw after it.
 fn step(run: Run) -> Run {
     let fold = run.fold;
-    let output = run.rng.next_u64();
-    let draw = output.rng.next_f64();
-    let seed = draws::direction_seed(output.value, fold);
-    let rng = draw.rng;
+    let (rng, output) = run.rng.next_u64();
+    let (rng, draw) = rng.next_f64();
+    let seed = draws::direction_seed(output, fold);
     Run {
         rng,
-        fold: numbers::wrapping_mul(seed ^ f64::to_bits(draw.value), 0x100_0000_01B3),
+        fold: numbers::wrapping_mul(seed ^ f64::to_bits(draw), 0x100_0000_01B3),
     }
 }
 

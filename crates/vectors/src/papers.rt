@@ -22,8 +22,8 @@ pub fn xorshift64star() {
 
 // Prints the upper half of the next output, and gives the next generator.
 fn upper(rng: Rng) -> Rng {
-    let drawn = rng.next_u64();
-    output::decimal(drawn.value / 0x1_0000_0000);
+    let (after, value) = rng.next_u64();
+    output::decimal(value / 0x1_0000_0000);
     output::end();
-    drawn.rng
+    after
 }

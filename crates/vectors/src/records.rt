@@ -1,5 +1,6 @@
 // Records of the accounts as text: every counter in decimal, every float by its bits.
-use accounts::{DirectionStats, LatencyStats, Outcome, SendAccountant, TotalDropped};
+use accounts::{DirectionStats, LatencyStats, SendAccountant};
+use numbers::Refusal;
 
 pub fn accountant(a: SendAccountant) {
     counts(&[
@@ -57,22 +58,22 @@ fn counts(list: &[u64]) {
     }
 }
 
-pub fn total(t: TotalDropped) {
-    match t {
-        TotalDropped::Dropped(n) => output::count(n),
-        TotalDropped::Refused(n) => refused(n),
+pub fn total(dropped: Result<u64, Refusal>) {
+    match dropped {
+        Ok(n) => output::count(n),
+        Err(refusal) => refused(refusal),
     }
     output::end();
 }
 
-pub fn outcome(o: Outcome) {
+pub fn outcome(o: Result<(), Refusal>) {
     match o {
-        Outcome::Done => output::text(b" done"),
-        Outcome::Refused(n) => refused(n),
+        Ok(()) => output::text(b" done"),
+        Err(refusal) => refused(refusal),
     }
 }
 
-fn refused(n: u32) {
+fn refused(refusal: Refusal) {
     output::text(b" refused");
-    output::count(n as u64);
+    output::count(u64::from(refusal.number()));
 }

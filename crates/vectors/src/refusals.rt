@@ -78,10 +78,8 @@ pub fn merges() {
 fn send(name: &[u8], counter: SendCounter, n: u64, len: usize) {
     output::text(b"refusal on_send ");
     output::text(name);
-    let sent = accountant(counter, n).on_send(len, 1.0);
-    let answer = sent.answer;
-    records::outcome(answer);
-    let after = sent.accountant;
+    let (after, sent) = accountant(counter, n).on_send(len, 1.0);
+    records::outcome(sent);
     records::accountant(after);
 }
 
@@ -90,10 +88,8 @@ fn deliver(name: &[u8], counter: StatsCounter, n: u64) {
     let s = stats(counter, n);
     output::text(b"refusal record_delivered ");
     output::text(name);
-    let updated = s.record_delivered(1.0);
-    let answer = updated.answer;
-    records::outcome(answer);
-    let after = updated.stats;
+    let (after, delivered) = s.record_delivered(1.0);
+    records::outcome(delivered);
     records::stats(after);
     output::text(b"refusal total_dropped ");
     output::text(name);
@@ -103,10 +99,11 @@ fn deliver(name: &[u8], counter: StatsCounter, n: u64) {
 fn merge(name: &[u8], counter: SendCounter, n: u64, received: u64) {
     output::text(b"refusal merge_into ");
     output::text(name);
-    let merged = accountant(counter, n).merge_into(stats(StatsCounter::Received, received));
-    let answer = merged.answer;
-    records::outcome(answer);
-    let after = merged.stats;
+    let (after, merged) = accountant(counter, n).merge_into(stats(
+        StatsCounter::Received,
+        received,
+    ));
+    records::outcome(merged);
     records::stats(after);
 }
 

@@ -1,12 +1,14 @@
 -- What it is for a call to agree with a step of the plain machine, and that every refused call does.
-use Rattle.std.specs.Prelude.{◌≡◌, Bool, cond, [], ◌∷◌, ℕ, eqb, length}
+use Rattle.std.specs.Prelude.{◌≡◌, Bool, [], ◌∷◌, length}
 use Rattle.std.proofs.Math.Path.{refl}
 use Rattle.std.proofs.Common.{sym, subst}
 use Rattle.std.proofs.Math.Bool.{true, false}
-use Rattle.numbers.specs.Checks.{check, first_failing}
+use Rattle.numbers.specs.Checks.{check, first_failing, first_refusal, unless as unless_met}
 use Rattle.numbers.specs.Laws.Both.{both_true}
 use Rattle.numbers.specs.Limits.{is_counter_of}
-use Rattle.numbers.specs.Refusals.{refused_instant, refused_length, refused_counter}
+use Rattle.numbers.specs.Refusals.{number_of, refused_instant, refused_length, refused_counter}
+use Rattle.numbers.specs.declared.refusal.Refusal.{Refusal}
+use Rattle.numbers.specs.declared.refusal.Refusal.TheVariants as refusal
 use Rattle.accounts.specs.Counters.{are_counters, accountant_counters}
 use Rattle.engine.specs.Laws.Sound.{SoundEngine}
 use Rattle.engine.specs.Refusals.{counters_pass}
@@ -18,17 +20,18 @@ use Rattle.queue_laws.specs.Held.{Plain, plain, step_to as queue_step_to, draine
 use Rattle.queue_laws.proofs.Agree.{Agree, drain_agrees}
 use Rattle.queue_laws.specs.Laws.Keeps.{Keeps}
 use Rattle.queue_laws.specs.Replies.{said_by_drain}
-use Rattle.machine.specs.Calls.{Answer, refused}
+use Rattle.machine.specs.Calls.{refused}
 use Rattle.machine.specs.Machine.{Machine, in_range}
 use Rattle.machine.specs.Steps.{Step, step_to, unless_refused, unless}
 use Rattle.device.specs.Refusals.{device_checks, call_refusal}
 use Rattle.device.specs.declared.device.Device.{Device}
+use Rattle.claim.proofs.Laws.Answers.{Said}
 use Rattle.claim.proofs.Laws.Matches.{AllShort, Matches}
 
 -- the call answers as the step does, and the device and tables that it leaves match the machine that the step leaves
-pub record Agrees (a : Answer) (v : Device) (t : Tables) (s : Step) : Type 0 where
-  pub says : a ≡ s.answer
-  pub matches : Matches v t s.then
+pub record Agrees (o : Said) (s : Step) : Type 0 where
+  pub says : o.reply ≡ s.answer
+  pub matches : Matches o.device o.tables s.then
 
 -- ---- the device that matches a machine
 
@@ -71,21 +74,21 @@ range_passed m h =
     record { instant_passes = refl; length_passes = refl; engine = parts.0; accounts = parts.1; torn = torn.1; next = next.1 }
 
 -- a call that is refused as the machine refuses, and else does what a step does
-module _ {A : Type 0} (P : A → Step → Type 0) (m : Machine) (done : A) (no : ℕ → A) (s : Step) (refuses : (n : ℕ) → P (no n) (step_to (refused n) m)) where
+module _ {A : Type 0} (P : A → Step → Type 0) (m : Machine) (done : A) (no : Refusal → A) (s : Step) (refuses : (e : Refusal) → P (no e) (step_to (refused (number_of e)) m)) where
   by_tests : (instant short counters : Bool) → in_range m.engine m.accounts m.torn m.next_seq ≡ counters
       → (Passed m instant short → P done s)
-      → P (cond (eqb (first_failing (device_checks true instant short counters)) 0) done (no (first_failing (device_checks true instant short counters))))
+      → P (unless_met (first_refusal (device_checks true instant short counters)) done no)
       (unless_refused m (first_failing (check instant refused_instant ∷ check short refused_length ∷ check counters refused_counter ∷ [])) s)
-  unfolding first_failing
-  by_tests false short counters e h = refuses refused_instant
-  by_tests true false counters e h = refuses refused_length
-  by_tests true true false e h = refuses refused_counter
+  unfolding first_failing first_refusal
+  by_tests false short counters e h = refuses refusal.Instant
+  by_tests true false counters e h = refuses refusal.Length
+  by_tests true true false e h = refuses refusal.Counter
   by_tests true true true e h = h (range_passed m e)
 
   -- for the device of the machine's parts and a queue with the machine's next seq
   pub by_refusal : (q : ImpairQueue) → q.next_seq ≡ m.next_seq → (memory instant short : Bool) → memory ≡ true
       → (Passed m instant short → P done s)
-      → P (cond (eqb (call_refusal (device_of m q) memory instant short) 0) done (no (call_refusal (device_of m q) memory instant short))) (unless m instant short s)
+      → P (unless_met (call_refusal (device_of m q) memory instant short) done no) (unless m instant short s)
   unfolding call_refusal unless
   by_refusal q same memory instant short holds h =
       rw (same, holds) (by_tests instant short (in_range m.engine m.accounts m.torn m.next_seq) refl h)

@@ -1,16 +1,16 @@
 -- What each call of crates/device says and leaves, by the definitions, and a list of calls.
-use Rattle.std.specs.Prelude.{List, [], ◌∷◌}
+use Rattle.std.specs.Prelude.{List, [], ◌∷◌, Option, Result}
+use Rattle.numbers.specs.declared.refusal.Refusal.{Refusal}
 use Rattle.queue.specs.Refusals.{slot_width}
 use Rattle.queue.specs.Tables.{Tables, After}
+use Rattle.queue.specs.declared.answers.Queued.{Queued}
 use Rattle.machine.specs.Calls as call
 use Rattle.machine.specs.Calls.{Call, Answer}
 use Rattle.device.specs.Arrive.{arrive_of}
 use Rattle.device.specs.Release.{release_of}
 use Rattle.device.specs.Others.{rebind_of, teardown_of, report_of}
-use Rattle.device.specs.declared.answers.Arrived.{Arrived}
-use Rattle.device.specs.declared.answers.Released.{Released}
-use Rattle.device.specs.declared.answers.Rebound.{Rebound}
-use Rattle.device.specs.declared.answers.TornDown.{TornDown}
+use Rattle.device.specs.Parts.{Handed}
+use Rattle.device.specs.declared.arrive.Arrived.{Arrived}
 use Rattle.device.specs.declared.device.Device.{Device}
 use Rattle.claim.specs.Replies.{said_of_arrive, said_of_release, said_of_rebind, said_of_teardown, said_of_report}
 
@@ -23,25 +23,23 @@ pub record Said : Type 0 where
 abbrev pub said : Answer → Device → Tables → Said
 said r v t = record { reply = r; device = v; tables = t }
 
-abbrev pub said_by_arrive : After Arrived → Said
-said_by_arrive o = said (said_of_arrive o.gives.answer) o.gives.device o.memory
+-- the device and the answer that a call hands back, with the tables that it leaves
+abbrev pub said_by : {A : Type 0} → (Result A Refusal → Answer) → Tables → Handed A → Said
+said_by says t h = said (says h.1) h.0 t
+
+abbrev pub said_by_arrive : After (Handed Arrived) → Said
+said_by_arrive o = said_by said_of_arrive o.memory o.gives
 
 -- a released copy is read with the store that the call leaves
-abbrev pub said_by_release : After Released → Said
-said_by_release o = said (said_of_release slot_width o.memory.store o.gives.answer) o.gives.device o.memory
-
-abbrev pub said_by_rebind : Tables → Rebound → Said
-said_by_rebind t o = said (said_of_rebind o.answer) o.device t
-
-abbrev pub said_by_teardown : Tables → TornDown → Said
-said_by_teardown t o = said (said_of_teardown o.answer) o.device t
+abbrev pub said_by_release : After (Handed (Option Queued)) → Said
+said_by_release o = said_by (said_of_release slot_width o.memory.store) o.memory o.gives
 
 -- a call of crates/device; a report leaves the device as it is
 unfoldable pub answer_to : Device → Tables → Call → Said
 answer_to v t (call.arrive now bytes route) = said_by_arrive (arrive_of slot_width v t now bytes route)
 answer_to v t (call.release now) = said_by_release (release_of slot_width v t now)
-answer_to v t (call.rebind now) = said_by_rebind t (rebind_of v now)
-answer_to v t call.teardown = said_by_teardown t (teardown_of v)
+answer_to v t (call.rebind now) = said_by said_of_rebind t (rebind_of v now)
+answer_to v t call.teardown = said_by said_of_teardown t (teardown_of v)
 answer_to v t call.report = said (said_of_report (report_of v)) v t
 
 -- a list of calls, each on what the last one left

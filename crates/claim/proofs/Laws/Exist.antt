@@ -1,17 +1,21 @@
 -- Each call is answered: for any device, memory and arguments there are an answer and tables at exit that the function's contract fits. So every list of calls has a run.
-use Rattle.std.specs.Prelude.{◌≡◌, refl, Bool, true, false, List, [], ◌∷◌, ℕ, zero, suc, T, Float}
+use Rattle.std.specs.Prelude.{◌≡◌, refl, List, [], ◌∷◌, ℕ, zero, suc, T, Float, Option, None, Some, Result, Ok, Err}
+use Rattle.std.specs.Borrow.{Bor, MutBor}
 use Rattle.std.proofs.Common.{sym, ap, subst}
 use Rattle.std.specs.Float.{binary64}
 use Rattle.std.specs.Float.Ieee.{fits}
 use contract.Lifetimes.{Lfts}
+use Rattle.numbers.specs.declared.refusal.Refusal.{Refusal}
 use Rattle.options.specs.Parse.{parse_of}
 use Rattle.options.specs.declared.config.DirectionConfig.{DirectionConfig}
+use Rattle.tournament.specs.declared.tree.Tree.{Tree}
+use Rattle.tournament.specs.declared.tree.TreeMut.{TreeMut}
 use Rattle.queue.specs.Calls.{payload_of}
 use Rattle.queue.specs.Refusals.{slot_width}
 use Rattle.queue.specs.Tables.{Tables, tables, after, Rows, rows_of}
-use Rattle.queue.specs.declared.answers.ReleaseAnswer.{ReleaseAnswer}
-use Rattle.queue.specs.declared.answers.ReleaseAnswer.TheVariants as left
-use Rattle.queue_laws.specs.Lent.{Ref, Lent}
+use Rattle.queue.specs.declared.answers.Queued.{Queued}
+use Rattle.queue.specs.declared.rows.Rows.{Rows as SeenRows}
+use Rattle.queue.specs.declared.rows.RowsMut.{RowsMut}
 use Rattle.machine.specs.Calls.{Call, arrive, release, rebind, teardown, report, Binary64Call, Binary64}
 use Rattle.device.specs.Arrive.{arrive_of}
 use Rattle.device.specs.Creation.{create_of}
@@ -23,43 +27,40 @@ use Rattle.claim.specs.Runs.{Parses, Creates, Arrives, Releases, Rebinds, TearsD
 use Rattle.claim.proofs.Laws.Answers.{answer_to, answers_to}
 use Rattle.claim.proofs.Laws.Lent.{arrive_free, release_rows}
 
--- ---- arguments: of a reference a contract reads the value alone
+-- ---- arguments: of a reference a contract reads the value alone, and that what it was lent stays the same
 
 abbrev lifetimes : (n : ℕ) → Lfts n
 lifetimes zero = tt
 lifetimes (suc n) = ([], lifetimes n)
 
-abbrev ref : {X : Type 0} (written : Bool) → X → Ref written X
-ref true x = record { ref_ptr = (0, 0); ghost_name = 0; now = x }
-ref false x = record { ref_ptr = (0, 0); now = x }
+abbrev shared : {X : Type 0} → X → Bor X
+shared x = record { ref_ptr = (0, 0); now = x }
 
--- the nine tables, and what follows them
-abbrev lend : {R : Type 0} (find free copies : Bool) → Tables → R → Lent find free copies R
-lend find free copies t r = (
-  ref find t.win,
-  (
-    ref free t.free,
-    (
-      ref find t.dues,
-      (
-        ref find t.seqs,
-        (
-          ref copies t.arrivals,
-          (ref copies t.routes, (ref copies t.copy_ids, (ref copies t.lengths, (ref copies t.store, r)))),
-        ),
-      ),
-    ),
-  ),
-)
+abbrev unique : {X : Type 0} → X → MutBor X
+unique x = record { ref_ptr = (0, 0); ghost_name = 0; now = x }
+
+-- the tables, to be read and to be written
+abbrev seen_tree : Tables → Tree
+seen_tree t = record { win = shared t.win; dues = shared t.dues; seqs = shared t.seqs }
+
+abbrev lent_tree : Tables → MutBor TreeMut
+lent_tree t = unique (record { win = unique t.win; dues = unique t.dues; seqs = unique t.seqs })
+
+abbrev seen_rows : Tables → SeenRows
+seen_rows t = record { arrivals = shared t.arrivals; routes = shared t.routes; copy_ids = shared t.copy_ids; lengths = shared t.lengths; store = shared t.store }
+
+abbrev lent_rows : Tables → MutBor RowsMut
+lent_rows t = unique (record { arrivals = unique t.arrivals; routes = unique t.routes; copy_ids = unique t.copy_ids; lengths = unique t.lengths; store = unique t.store })
 
 -- ---- calls
 
 pub parses_so : (text : List ℕ) → Parses text (parse_of text)
-parses_so text = Parses.called (lifetimes 1) (ref false text, tt) (parse_of text) (ref false text, tt) refl refl
+parses_so text = Parses.called (lifetimes 1) (shared text, tt) (parse_of text) (shared text, tt) refl refl
 
 pub creates_so : (cfg : DirectionConfig) (seed salt cap : ℕ) (t : Tables) → Creates cfg seed salt cap t (create_of slot_width cfg seed salt cap t)
 creates_so cfg seed salt cap t =
-    Creates.called (lifetimes 9) (cfg, (seed, (salt, (cap, lend false false false t tt)))) (create_of slot_width cfg seed salt cap t) (cfg, (seed, (salt, (cap, lend false false false t tt)))) refl refl refl refl refl refl
+    Creates.called (lifetimes 3) (cfg, (seed, (salt, (cap, (seen_tree t, (shared t.free, (seen_rows t, tt))))))) (create_of slot_width cfg seed salt cap t)
+    (cfg, (seed, (salt, (cap, (seen_tree t, (shared t.free, (seen_rows t, tt))))))) refl refl refl refl refl refl
 
 -- the tables with this `free`, and with these rows
 abbrev with_free : Tables → List ℕ → Tables
@@ -74,15 +75,17 @@ arrives_so v t now bytes route fit =
     let o = arrive_of slot_width v t now bytes route in
     let same : with_free o.memory t.free ≡ o.memory = sym (ap (with_free o.memory) (arrive_free v t now bytes route)) in
     subst (Arrives v t now bytes route o.gives) same
-    (Arrives.called (lifetimes 10) (v, lend true false true t (now, (ref false bytes, (route, tt)))) o.gives (v, lend true false true o.memory (now, (ref false bytes, (route, tt))))
-    fit refl refl refl refl refl (ap (after o.gives) same))
+    (Arrives.called (lifetimes 6) (v, (lent_tree t, (shared t.free, (lent_rows t, (now, (shared bytes, (route, tt))))))) o.gives
+    (v, (lent_tree o.memory, (shared t.free, (lent_rows o.memory, (now, (shared bytes, (route, tt)))))))
+    fit refl refl refl refl refl (ap (after o.gives) same, ((refl, refl, refl), (refl, refl, refl, refl, refl))))
 
 releases_so : (v : Device) (t : Tables) (now : Float) → let o = release_of slot_width v t now in Releases v t now o.gives o.memory
 releases_so v t now =
     let o = release_of slot_width v t now in
     let same : with_rows o.memory (rows_of t) ≡ o.memory = sym (ap (with_rows o.memory) (release_rows v t now)) in
     subst (Releases v t now o.gives) same
-    (Releases.called (lifetimes 9) (v, lend true true false t (now, tt)) o.gives (v, lend true true false o.memory (now, tt)) refl refl refl (ap (after o.gives) same))
+    (Releases.called (lifetimes 4) (v, (lent_tree t, (unique t.free, (seen_rows t, (now, tt))))) o.gives
+    (v, (lent_tree o.memory, (unique o.memory.free, (seen_rows t, (now, tt))))) refl refl refl (ap (after o.gives) same, (refl, refl, refl)))
 
 rebinds_so : (v : Device) (now : Float) → Rebinds v now (rebind_of v now)
 rebinds_so v now = Rebinds.called tt (v, (now, tt)) (rebind_of v now) (v, (now, tt)) refl refl refl
@@ -91,15 +94,15 @@ tears_so : (v : Device) → TearsDown v (teardown_of v)
 tears_so v = TearsDown.called tt (v, tt) (teardown_of v) (v, tt) refl refl
 
 reports_so : (v : Device) → Reports v (report_of v)
-reports_so v = Reports.called tt (v, tt) (report_of v) (v, tt) refl refl
+reports_so v = Reports.called (lifetimes 1) (shared v, tt) (report_of v) (shared v, tt) refl refl
 
 reads_so : (store : List ℕ) (slot len : ℕ) → Reads store slot len (payload_of slot_width store slot len)
-reads_so store slot len = Reads.called (lifetimes 1) (ref false store, (slot, (len, tt))) (ref false (payload_of slot_width store slot len)) (ref false store, (slot, (len, tt))) refl refl refl refl
+reads_so store slot len = Reads.called (lifetimes 1) (shared store, (slot, (len, tt))) (shared (payload_of slot_width store slot len)) (shared store, (slot, (len, tt))) refl refl refl refl
 
-says_so : (store : List ℕ) (a : ReleaseAnswer) → Says store a (said_of_release slot_width store a)
-says_so store (left.Released c) = hands_out (reads_so store c.slot c.length)
-says_so store left.NoneDue = none
-says_so store (left.Refused k) = refuses
+says_so : (store : List ℕ) (a : Result (Option Queued) Refusal) → Says store a (said_of_release slot_width store a)
+says_so store (Ok (Some c)) = hands_out (reads_so store c.slot c.length)
+says_so store (Ok None) = none
+says_so store (Err e) = refuses
 
 answered_so : (v : Device) (t : Tables) (c : Call) → Binary64Call c → Answered v t c (answer_to v t c).reply (answer_to v t c).device (answer_to v t c).tables
 unfolding answer_to

@@ -1,8 +1,8 @@
 -- The relation between a device over its lent memory and the plain machine.
-use Rattle.std.specs.Prelude.{◌≡◌, List, [], ◌∷◌, ◌≤◌}
+use Rattle.std.specs.Prelude.{◌≡◌, List, ◌≤◌}
 use Rattle.numbers.specs.Limits.{max_length}
 use Rattle.engine.specs.Laws.Sound.{SoundEngine}
-use Rattle.held.specs.Copies.{Copy}
+use Rattle.held.specs.Copies.{Copy, Mem}
 use Rattle.queue.specs.Refusals.{slot_width}
 use Rattle.queue.specs.Tables.{Tables}
 use Rattle.queue_laws.specs.Held.{plain}
@@ -12,8 +12,7 @@ use Rattle.device.specs.declared.device.Device.{Device}
 
 -- no copy of a list is longer than a packet may be
 abbrev pub AllShort : List Copy → Type 0
-AllShort [] = Unit {0}
-AllShort (c ∷ l) = (c.length ≤ max_length) × AllShort l
+AllShort l = (c : Copy) → Mem c l → c.length ≤ max_length
 
 -- the parts are the machine's, the tables hold its list, its engine is sound, and its copies are short
 pub record Matches (v : Device) (t : Tables) (m : Machine) : Type 0 where

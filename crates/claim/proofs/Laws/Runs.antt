@@ -13,7 +13,7 @@ use Rattle.claim.proofs.Laws.Arrive.{arrive_matches}
 use Rattle.claim.proofs.Laws.Release.{release_matches}
 use Rattle.claim.proofs.Laws.Others.{rebind_matches, teardown_matches, report_matches}
 
-pub call_agrees : (v : Device) (t : Tables) (m : Machine) → Matches v t m → (c : Call) → Binary64Call c → Agrees (answer_to v t c).reply (answer_to v t c).device (answer_to v t c).tables (step m c)
+pub call_agrees : (v : Device) (t : Tables) (m : Machine) → Matches v t m → (c : Call) → Binary64Call c → Agrees (answer_to v t c) (step m c)
 unfolding answer_to
 call_agrees v t m k (arrive now bytes route) fit = arrive_matches v t m k now bytes route fit
 call_agrees v t m k (release now) fit = release_matches v t m k now

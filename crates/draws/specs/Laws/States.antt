@@ -8,7 +8,7 @@ use Rattle.std.specs.Float.Ieee.Fits.{eq→eqb}
 use Rattle.draws.specs.Shifts.{xor_shift_right, xor_shift_left, golden_gamma}
 use Rattle.draws.specs.Rng.{new_rng_of, step_of, output_of, next_u64_of}
 
-pub zero_stays : next_u64_of (record { state = 0 }) ≡ record { rng = record { state = 0 }; value = 0 }
+pub zero_stays : next_u64_of (record { state = 0 }) ≡ (record { state = 0 }, 0)
 unfolding next_u64_of output_of step_of
 zero_stays = refl
 

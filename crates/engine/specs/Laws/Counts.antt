@@ -1,7 +1,7 @@
 -- How decisions are counted: a drop in one of the four counters, all else in none of them, and a duplicated packet as a duplicate.
-use Rattle.std.specs.Prelude.{◌≡◌, refl, Bool, true, false, ℕ, ◌+◌, ◌≤◌, eqb, Float}
+use Rattle.std.specs.Prelude.{◌≡◌, refl, Bool, true, false, ℕ, ◌+◌, ◌≤◌, Float, Result, Ok, Err}
 use Rattle.std.proofs.Common.{lit≤}
-use Rattle.numbers.specs.Laws.NotNan.{cond_has}
+use Rattle.numbers.specs.declared.refusal.Refusal.{Refusal}
 use Rattle.steps.specs.Decision.{is_drop_of}
 use Rattle.steps.specs.declared.decision.Decision.{Decision}
 use Rattle.steps.specs.declared.decision.Decision.TheVariants.{DropRandom, DropGe, DropMtu, DropBlackout, DropKillHold, Enqueue, KillRst}
@@ -9,10 +9,8 @@ use Rattle.judgement.specs.Settings.{is_settings_of}
 use Rattle.engine.specs.Calls.{decide_given_of, decide_of}
 use Rattle.engine.specs.Counts.{one_if, counts_of, counted_of}
 use Rattle.engine.specs.Decide.{after_of, decide_passed_of}
+use Rattle.engine.specs.Laws.Refusals.{called_has}
 use Rattle.engine.specs.Refusals.{arrival_refusal}
-use Rattle.engine.specs.declared.answers.DecideAnswer.{DecideAnswer}
-use Rattle.engine.specs.declared.answers.DecideAnswer.TheVariants.{Decided, Refused}
-use Rattle.engine.specs.declared.answers.Decided.{Decided as DecidedEngine}
 use Rattle.engine.specs.declared.counts.DecisionCounts.{DecisionCounts}
 use Rattle.engine.specs.declared.engine.ArrivalEngine.{ArrivalEngine}
 
@@ -84,15 +82,15 @@ pub record CountedAs (before after : ArrivalEngine) (len : ℕ) (d : Decision) :
   pub sent : after.stats.sent_pkts ≡ before.stats.sent_pkts
   pub rebinds : after.stats.nat_rebinds ≡ before.stats.nat_rebinds
 
-pub decide_counts : (e : ArrivalEngine) (now : Float) (len : ℕ) → CountedAs e (decide_passed_of e now len).engine len (decide_passed_of e now len).decision
+pub decide_counts : (e : ArrivalEngine) (now : Float) (len : ℕ) → CountedAs e (decide_passed_of e now len).0 len (decide_passed_of e now len).1
 unfolding decide_passed_of after_of counted_of
 decide_counts e now len = record { received = refl; bytes = refl; random = refl; ge = refl; mtu = refl; blackout = refl; duplicates = refl; overflow = refl; resets = refl; sent = refl; rebinds = refl }
 
 -- what a call of `decide` does to the counters: as its decision says, or nothing where it is refused
-abbrev pub Accounted : ArrivalEngine → ArrivalEngine → ℕ → DecideAnswer → Type 0
-Accounted before after len (Decided d) = CountedAs before after len d
-Accounted before after len (Refused k) = after ≡ before
+abbrev pub Accounted : ArrivalEngine → ArrivalEngine → ℕ → Result Decision Refusal → Type 0
+Accounted before after len (Ok d) = CountedAs before after len d
+Accounted before after len (Err k) = after ≡ before
 
-pub decide_accounts : (e : ArrivalEngine) (now : Float) (len : ℕ) → Accounted e (decide_of e now len).engine len (decide_of e now len).answer
+pub decide_accounts : (e : ArrivalEngine) (now : Float) (len : ℕ) → Accounted e (decide_of e now len).0 len (decide_of e now len).1
 unfolding decide_given_of
-decide_accounts e now len = cond_has (λ (r : DecidedEngine). Accounted e r.engine len r.answer) (eqb (arrival_refusal (is_settings_of e.cfg) e now len) 0) (decide_counts e now len) refl
+decide_accounts e now len = called_has (λ (r : ArrivalEngine × Result Decision Refusal). Accounted e r.0 len r.1) (arrival_refusal (is_settings_of e.cfg) e now len) e (decide_passed_of e now len) (λ p. decide_counts e now len) (λ k. refl)

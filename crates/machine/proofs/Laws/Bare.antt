@@ -1,6 +1,7 @@
 -- A machine whose copies have lost their bytes and routes answers calls that have lost theirs as the machine answers the calls: nothing else looks at them.
-use Rattle.std.specs.Prelude.{◌≡◌, refl, Bool, true, false, cond, List, [], ◌∷◌, ◌++◌, map, ℕ, suc, ltb, eqb, Float, length}
+use Rattle.std.specs.Prelude.{◌≡◌, refl, Bool, true, false, cond, List, [], ◌∷◌, map, ℕ, ltb, eqb, Float, length}
 use Rattle.std.proofs.Common.{ap, ◌∙◌}
+use Rattle.std.proofs.lemmas.List.{length-map, map-append, length-replicate}
 use Rattle.std.specs.Float.Ieee.{le}
 use Rattle.numbers.specs.Checks.{first_failing}
 use Rattle.numbers.specs.Instant.{is_instant_of}
@@ -29,18 +30,6 @@ bare_entry e = entry (bare_machine e.then) e.entered e.overflowed
 either : {A B : Type 0} (f : A → B) (b : Bool) {x y : A} {u v : B} → f x ≡ u → f y ≡ v → f (cond b x y) ≡ cond b u v
 either f true p q = p
 either f false p q = q
-
-blank_length : (bytes : List ℕ) → length (blank bytes) ≡ length bytes
-blank_length [] = refl
-blank_length (b ∷ bytes) = ap suc (blank_length bytes)
-
-held_length : (l : List Copy) → length (map bare_copy l) ≡ length l
-held_length [] = refl
-held_length (c ∷ l) = ap suc (held_length l)
-
-held_last : (l : List Copy) (c : Copy) → map bare_copy (l ++ (c ∷ [])) ≡ map bare_copy l ++ (bare_copy c ∷ [])
-held_last [] c = refl
-held_last (x ∷ l) c = ap (λ (k : List Copy). bare_copy x ∷ k) (held_last l c)
 
 -- the least is the same, and so are the copy that leaves and those that stay
 bare_least : (c : Copy) (l : List Copy) → bare_copy (least c l) ≡ least (bare_copy c) (map bare_copy l)
@@ -80,12 +69,12 @@ unfolding unless
 bare_unless m i l s = either bare_step (eqb (first_failing (machine_checks m i l)) 0) refl refl
 
 bare_copy_lem : (m : Machine) (due now : Float) (route id : ℕ) (bytes : List ℕ) → bare_machine (with_copy m due now route id bytes) ≡ with_copy (bare_machine m) due now 0 id (blank bytes)
-bare_copy_lem m due now route id bytes = cc (held_last m.held _, blank_length bytes)
+bare_copy_lem m due now route id bytes = cc (map-append bare_copy m.held (_ ∷ []), length-replicate {A = ℕ} (length bytes) 0)
 
 bare_enter : (due now : Float) (route : ℕ) (bytes : List ℕ) (id : ℕ) (e : Entry) → bare_entry (enter_copy due now route bytes id e) ≡ enter_copy due now 0 (blank bytes) id (bare_entry e)
 unfolding enter_copy
 bare_enter due now route bytes id e =
-    rw (held_length e.then.held) (either bare_entry (ltb (length e.then.held) e.then.cap) (cc (bare_copy_lem e.then due now route id bytes)) refl)
+    rw (length-map e.then.held bare_copy) (either bare_entry (ltb (length e.then.held) e.then.cap) (cc (bare_copy_lem e.then due now route id bytes)) refl)
 
 bare_enters : (m : Machine) (due : Float) (duplicated : Bool) (now : Float) (bytes : List ℕ) (route : ℕ)
     → bare_entry (enter_copies m due duplicated now bytes route) ≡ enter_copies (bare_machine m) due duplicated now (blank bytes) 0
@@ -102,7 +91,7 @@ bare_follow m DropMtu now bytes route = refl
 bare_follow m DropBlackout now bytes route = refl
 bare_follow m DropKillHold now bytes route = refl
 bare_follow m (Enqueue due duplicated) now bytes route = ap (enters_as (Enqueue due duplicated)) (bare_enters m due duplicated now bytes route)
-bare_follow m KillRst now bytes route = cc (held_length m.held)
+bare_follow m KillRst now bytes route = cc (length-map m.held bare_copy)
 
 bare_hand : (m : Machine) (now : Float) (x : Leaving) → bare_step (hand_out m now x) ≡ hand_out (bare_machine m) now (bare_leaving x)
 unfolding hand_out
@@ -117,15 +106,15 @@ unfolding arrive_step
 bare_arrive m now bytes route =
     bare_unless m (is_instant_of now) (is_length_of (length bytes)) _
     ∙ ap (unless (bare_machine m) (is_instant_of now) (is_length_of (length bytes))) (bare_follow _ _ now bytes route)
-    ∙ cc (blank_length bytes)
+    ∙ cc (length-replicate {A = ℕ} (length bytes) 0)
 
 pub bare_step_lem : (m : Machine) (c : Call) → bare_step (step m c) ≡ step (bare_machine m) (bare_call c)
 unfolding step release_step rebind_step teardown_step report_step
 bare_step_lem m (arrive now bytes route) = bare_arrive m now bytes route
 bare_step_lem m (release now) = bare_unless m (is_instant_of now) true _ ∙ ap (unless (bare_machine m) (is_instant_of now) true) (bare_release m now)
 bare_step_lem m (rebind now) = bare_unless m (is_instant_of now) true _ ∙ ap (unless (bare_machine m) (is_instant_of now) true) (either bare_step (le m.engine.next_rebind_ms now) refl refl)
-bare_step_lem m teardown = bare_unless m true true _ ∙ ap (unless (bare_machine m) true true) (cc (held_length m.held))
-bare_step_lem m report = bare_unless m true true _ ∙ ap (unless (bare_machine m) true true) (cc (held_length m.held))
+bare_step_lem m teardown = bare_unless m true true _ ∙ ap (unless (bare_machine m) true true) (cc (length-map m.held bare_copy))
+bare_step_lem m report = bare_unless m true true _ ∙ ap (unless (bare_machine m) true true) (cc (length-map m.held bare_copy))
 
 pub bare_answers_lem : (m : Machine) (cs : List Call) → bare_answers (answers m cs) ≡ answers (bare_machine m) (bare_calls cs)
 unfolding answers

@@ -20,7 +20,7 @@ use Rattle.machine.specs.Steps.{Step, step_to, unless_refused, unless, with_engi
 pub data Does (m : Machine) : Call → Step → Type 0 where
   refuses : (c : Call) (k : ℕ) → Refusal k → Does m c (step_to (refused k) m)
   decides : (now : Float) (bytes : List ℕ) (route : ℕ) → is_instant_of now ≡ true → is_length_of (length bytes) ≡ true
-      → Does m (arrive now bytes route) (follow (with_engine m (decide_passed_of m.engine now (length bytes)).engine) (decide_passed_of m.engine now (length bytes)).decision now bytes route)
+      → Does m (arrive now bytes route) (follow (with_engine m (decide_passed_of m.engine now (length bytes)).0) (decide_passed_of m.engine now (length bytes)).1 now bytes route)
   releases : (now : Float) (c : Copy) → Mem c m.held → Does m (release now) (step_to (released c) (leave m now c))
   finds_none : (now : Float) → Does m (release now) (step_to none_due m)
   rebinds : (now : Float) → Does m (rebind now) (step_to (rebound true) (with_engine m (rebound_of m.engine)))

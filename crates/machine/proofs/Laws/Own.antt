@@ -1,6 +1,7 @@
 -- Each held copy is one that entered with its seq, and so is each that is handed out.
 use Rattle.std.specs.Prelude.{◌≡◌, refl, ◌⊎◌, List, [], ◌∷◌, ◌++◌, ℕ, zero, suc, ◌+◌, ltb, Float, length, replicate}
-use Rattle.std.proofs.Common.{sym, ap, ◌∙◌, subst, inl, inr, append-nil, append_assoc, add-one, length-append}
+use Rattle.std.proofs.Common.{sym, ap, ◌∙◌, subst, inl, inr, append-nil, append_assoc, length-append}
+use Rattle.std.proofs.lemmas.List.{replicate-append-replicate}
 use Rattle.numbers.specs.Laws.NotNan.{cond_has}
 use Rattle.steps.specs.declared.decision.Decision.{Decision}
 use Rattle.steps.specs.declared.decision.Decision.TheVariants.{DropRandom, DropGe, DropMtu, DropBlackout, DropKillHold, Enqueue, KillRst}
@@ -32,12 +33,8 @@ at_end : {A : Type 0} (l : List A) (x : A) → At (length l) (l ++ (x ∷ [])) x
 at_end [] x = refl
 at_end (y ∷ l) x = at_end l x
 
-replicate_last : {A : Type 0} (n : ℕ) (x : A) → replicate (suc n) x ≡ replicate n x ++ (x ∷ [])
-replicate_last zero x = refl
-replicate_last {A} (suc n) x = ap (λ (l : List A). x ∷ l) (replicate_last n x)
-
 one_more_lem : (came : List Brought) (n : ℕ) (b : Brought) → came ++ replicate n b ++ (b ∷ []) ≡ came ++ replicate (n + 1) b
-one_more_lem came n b = append_assoc came (replicate n b) (b ∷ []) ∙ ap (λ (l : List Brought). came ++ l) (sym (replicate_last n b) ∙ ap (λ (k : ℕ). replicate k b) (sym (add-one n)))
+one_more_lem came n b = append_assoc came (replicate n b) (b ∷ []) ∙ ap (λ (l : List Brought). came ++ l) (replicate-append-replicate n 1 b)
 
 -- ---- what is known stays known
 

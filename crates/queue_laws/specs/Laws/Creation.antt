@@ -1,20 +1,19 @@
 -- A queue that was created or drained holds nothing, on any lent memory that is long enough: no table is read or written.
 use Rattle.std.proofs.Math.Path.{◌≡◌}
-use Rattle.std.specs.Prelude.{refl, ◌⊎◌, [], Bool, true, false, cond, not, ◌&&◌, ℕ, ◌-◌, ◌*◌, ◌<◌, ◌≤◌, length, get_or}
+use Rattle.std.specs.Prelude.{refl, ◌⊎◌, [], Bool, true, false, cond, not, ◌&&◌, ℕ, ◌-◌, ◌*◌, ◌<◌, ◌≤◌, length, get_or, Ok, Err}
 use Rattle.std.proofs.Common.{subst, inl, inr, arith, le-leb, leb-true}
 use Rattle.std.proofs.Math.Dec.{leb}
 use Rattle.std.proofs.lemmas.Bool.{lt-leb}
 use Rattle.numbers.specs.Laws.Both.{both_true}
 use Rattle.numbers.specs.Laws.NotNan.{cond_has}
 use Rattle.numbers.specs.Limits.{max_capacity}
-use Rattle.numbers.specs.Refusals.{refused_memory, refused_capacity}
+use Rattle.numbers.specs.declared.refusal.Refusal.{Refusal}
+use Rattle.numbers.specs.declared.refusal.Refusal.TheVariants as refusal
 use Rattle.held.specs.Copies.{Copy}
 use Rattle.queue.specs.Tables.{Tables}
 use Rattle.queue.specs.Refusals.{room_of, memory_of}
-use Rattle.queue.specs.Calls.{fresh, not_created, create_of}
+use Rattle.queue.specs.Calls.{Handed, fresh, not_created, create_of}
 use Rattle.queue.specs.declared.queue.ImpairQueue.{ImpairQueue}
-use Rattle.queue.specs.declared.answers.Created.{Created}
-use Rattle.queue.specs.declared.answers.CreateAnswer.TheVariants as create
 use Rattle.queue_laws.specs.Held.{Plain, plain}
 use Rattle.queue_laws.specs.Laws.Rows.{none, seq_limit, view, Perm}
 use Rattle.queue_laws.specs.Laws.Keeps.{Keeps, Long, row_of}
@@ -111,45 +110,45 @@ short_memory width cap t lacks = go (memory_of width cap t) refl
 -- ---- creation: the three cases, of which exactly one holds
 
 -- 24: the capacity is out of range
-pub create_capacity : (width cap : ℕ) (t : Tables) → (cap < 1) ⊎ (max_capacity < cap) → create_of width cap t ≡ not_created refused_capacity
+pub create_capacity : (width cap : ℕ) (t : Tables) → (cap < 1) ⊎ (max_capacity < cap) → create_of width cap t ≡ not_created refusal.Capacity
 unfolding create_of
 create_capacity width cap t (inl h) = rw (lt-leb 1 cap h)
 create_capacity width cap t (inr h) = rw (le-leb 1 cap (omega arith), lt-leb cap max_capacity h)
 
 -- 23: the memory is too short
-pub create_memory : (width cap : ℕ) (t : Tables) → 0 < cap → cap ≤ max_capacity → (Long width cap t → ⊥) → create_of width cap t ≡ not_created refused_memory
+pub create_memory : (width cap : ℕ) (t : Tables) → 0 < cap → cap ≤ max_capacity → (Long width cap t → ⊥) → create_of width cap t ≡ not_created refusal.Memory
 unfolding create_of
 create_memory width cap t pos small lacks = rw (le-leb 1 cap pos, le-leb cap max_capacity small, short_memory width cap t lacks)
 
 -- else it is created
-pub create_made : (width cap : ℕ) (t : Tables) → 0 < cap → cap ≤ max_capacity → Long width cap t → create_of width cap t ≡ record { queue = fresh cap 0; answer = create.Created }
+pub create_made : (width cap : ℕ) (t : Tables) → 0 < cap → cap ≤ max_capacity → Long width cap t → create_of width cap t ≡ (fresh cap 0, Ok tt)
 unfolding create_of
 create_made width cap t pos small long = rw (le-leb 1 cap pos, le-leb cap max_capacity small, long_memory width cap t long)
 
 -- a creation that was not refused: the queue holds nothing, on any lent memory
-pub create_keeps : (width cap : ℕ) (t : Tables) → (create_of width cap t).answer ≡ create.Created → Keeps width t (create_of width cap t).queue (plain cap [] 0)
+pub create_keeps : (width cap : ℕ) (t : Tables) → (create_of width cap t).1 ≡ Ok tt → Keeps width t (create_of width cap t).0 (plain cap [] 0)
 unfolding create_of
 create_keeps width cap t = go (leb 1 cap && leb cap max_capacity) refl (memory_of width cap t) refl
   where
     go : (a : Bool) → (leb 1 cap && leb cap max_capacity) ≡ a → (b : Bool) → memory_of width cap t ≡ b
-        → (cond (not a) (not_created refused_capacity) (cond (not b) (not_created refused_memory) (record { queue = fresh cap 0; answer = create.Created }))).answer ≡ create.Created
-        → Keeps width t (cond (not a) (not_created refused_capacity) (cond (not b) (not_created refused_memory) (record { queue = fresh cap 0; answer = create.Created }))).queue (plain cap [] 0)
-    go false ea b eb h = absurd (let z : ◌≡◌ {A = ℕ} 0 1 = cc in omega arith)
-    go true ea false eb h = absurd (let z : ◌≡◌ {A = ℕ} 0 1 = cc in omega arith)
+        → (cond (not a) (not_created refusal.Capacity) (cond (not b) (not_created refusal.Memory) (fresh cap 0, Ok tt))).1 ≡ Ok tt
+        → Keeps width t (cond (not a) (not_created refusal.Capacity) (cond (not b) (not_created refusal.Memory) (fresh cap 0, Ok tt))).0 (plain cap [] 0)
+    go false ea b eb h = cc
+    go true ea false eb h = cc
     go true ea true eb h =
         let range = both_true (leb 1 cap) (leb cap max_capacity) ea in
         nothing_held width cap t 0 (leb-true 1 cap range.0) (leb-true cap max_capacity range.1) (memory_long width cap t eb) (omega arith)
 
 -- a creation that was refused: a queue of capacity 1 that holds nothing, on any memory that is long enough for it
-module _ (width cap : ℕ) (t later : Tables) (n : ℕ) where
-  abbrev One : Created → Type 0
-  One c = c.answer ≡ create.Refused n → memory_of width 1 later ≡ true → Keeps width later c.queue (plain 1 [] 0)
+module _ (width cap : ℕ) (t later : Tables) (r : Refusal) where
+  abbrev One : Handed (Unit {0}) → Type 0
+  One c = c.1 ≡ Err r → memory_of width 1 later ≡ true → Keeps width later c.0 (plain 1 [] 0)
 
-  one : (k : ℕ) → One (not_created k)
+  one : (k : Refusal) → One (not_created k)
   one k e long = nothing_held width 1 later 0 (omega arith) (omega arith) (memory_long width 1 later long) (omega arith)
 
   pub refused_keeps : One (create_of width cap t)
   unfolding create_of
   refused_keeps =
-      cond_has One (not (leb 1 cap && leb cap max_capacity)) (one refused_capacity)
-      (cond_has One (not (memory_of width cap t)) (one refused_memory) (λ e long. let z : ◌≡◌ {A = ℕ} 0 1 = cc in absurd (omega arith)))
+      cond_has One (not (leb 1 cap && leb cap max_capacity)) (one refusal.Capacity)
+      (cond_has One (not (memory_of width cap t)) (one refusal.Memory) (λ e long. cc))

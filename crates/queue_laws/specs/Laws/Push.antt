@@ -1,5 +1,5 @@
 -- A push that is not refused carries `Keeps` on: the copy stands at the end of the held list.
-use Rattle.std.specs.Prelude.{◌≡◌, refl, ◌≢◌, ◌⊎◌, true, List, ◌∷◌, ℕ, ◌+◌, ◌-◌, ◌*◌, ◌<◌, ◌≤◌, max, length, get_or, set, Float}
+use Rattle.std.specs.Prelude.{◌≡◌, refl, ◌≢◌, ◌⊎◌, true, List, ◌∷◌, ℕ, ◌+◌, ◌-◌, ◌*◌, ◌<◌, ◌≤◌, max, length, get_or, set, Float, Ok}
 use Rattle.std.proofs.Common.{sym, ap, ◌∙◌, inl, inr, arith, length-set, length-append, get_or-set_same, get_or-set_other, eq-eqb, ne_eqb}
 use Rattle.std.proofs.Math.Path.{subst}
 use Rattle.std.proofs.Math.Logic.{⊎_elim}
@@ -35,8 +35,8 @@ next_slot_lem q free h = ⊎_elim
 
 -- a copy entered: its slot was in range, and the tables keep the plain queue with it
 pub record Entered (width : ℕ) (o : AfterCopy) (p : Plain) : Type 0 where
-  pub fits : o.gives.fits ≡ true
-  pub keeps : Keeps width o.memory o.gives.queue p
+  pub fits : o.gives.1 ≡ Ok tt
+  pub keeps : Keeps width o.memory o.gives.0 p
 
 -- ---- a copy enters a slot that has a leaf
 

@@ -1,5 +1,5 @@
 -- A full bucket is a credit, what the refill and the charge leave is one too and at most the capacity, and what a debt waits is a number with a clear sign bit.
-use Rattle.std.specs.Prelude.{◌≡◌, true, not, ℕ, ◌/◌, ◌^◌, ◌<◌, ◌≤◌, T, ltb, eqb, pos, Float}
+use Rattle.std.specs.Prelude.{◌≡◌, true, not, ℕ, ◌/◌, ◌^◌, ◌<◌, ◌≤◌, T, ltb, eqb, pos, Float, Option, Some, None}
 use Rattle.std.proofs.Common.{arith, leb-true, ltb→lt, le→leb, lit≤}
 use Rattle.std.proofs.lemmas.Bool.{eqb-false, not-true}
 use Rattle.std.specs.Float.{binary64}
@@ -19,28 +19,26 @@ use Rattle.numbers.specs.Laws.Elapsed.{elapsed_bounded}
 use Rattle.values.specs.Whole.{is_bounded}
 use Rattle.judgement.specs.Scalars.{is_rate}
 use Rattle.options.specs.Directions.{least_burst, default_burst_of}
-use Rattle.options.specs.declared.config.RateOption.{RateOption}
-use Rattle.options.specs.declared.config.RateOption.TheVariants.{Absent, Present}
 use Rattle.steps.specs.Bucket.{rate_capacity_of, bucket_capacity_of, charged_of}
 
 -- a rate that passes is above 0 and at most 2 ^ 53
-rate_within : (bps : ℕ) → is_rate (Present bps) ≡ true → (0 < bps) × (bps ≤ max_exact)
+rate_within : (bps : ℕ) → is_rate (Some bps) ≡ true → (0 < bps) × (bps ≤ max_exact)
 rate_within bps h =
     let both = both_true (not (eqb bps 0)) (is_bounded bps) h in
     (omega (arith, eqb-false bps 0 (not-true (eqb bps 0) both.0)), leb-true bps max_exact both.1)
 
-rate_capacity_within : (rate : RateOption) → is_rate rate ≡ true → rate_capacity_of rate ≤ max_exact
+rate_capacity_within : (rate : Option ℕ) → is_rate rate ≡ true → rate_capacity_of rate ≤ max_exact
 unfolding rate_capacity_of default_burst_of
-rate_capacity_within Absent h = lit≤ tt
-rate_capacity_within (Present bps) h = cond_has (λ (n : ℕ). n ≤ max_exact) (ltb (bps / 8) least_burst) (lit≤ tt) (omega (arith, (rate_within bps h).1))
+rate_capacity_within None h = lit≤ tt
+rate_capacity_within (Some bps) h = cond_has (λ (n : ℕ). n ≤ max_exact) (ltb (bps / 8) least_burst) (lit≤ tt) (omega (arith, (rate_within bps h).1))
 
-capacity_clear : (rate : RateOption) (burst : ℕ) → is_rate rate ≡ true → is_bounded burst ≡ true → PlusFinite (whole (bucket_capacity_of rate burst))
+capacity_clear : (rate : Option ℕ) (burst : ℕ) → is_rate rate ≡ true → is_bounded burst ≡ true → PlusFinite (whole (bucket_capacity_of rate burst))
 unfolding bucket_capacity_of
 capacity_clear rate burst h k =
     (whole_bounded _ (cond_has (λ (n : ℕ). n ≤ max_exact) (ltb 0 burst) (leb-true burst max_exact k) (rate_capacity_within rate h))).clear
 
 -- a full bucket is a credit
-pub full_credit : (rate : RateOption) (burst : ℕ) → is_rate rate ≡ true → is_bounded burst ≡ true → Credit (whole (bucket_capacity_of rate burst))
+pub full_credit : (rate : Option ℕ) (burst : ℕ) → is_rate rate ≡ true → is_bounded burst ≡ true → Credit (whole (bucket_capacity_of rate burst))
 full_credit rate burst h k = plus_credit (of_int-fits binary64 (pos (bucket_capacity_of rate burst))) (capacity_clear rate burst h k)
 
 -- the longest packet that is planned, in bytes
@@ -52,25 +50,25 @@ unfolding of_int
 planned_within len h = rw (whole_le len (2 ^ 14) (omega arith) (lit≤ tt)) (le→leb len (2 ^ 14) (omega arith))
 
 -- a credit stays one
-pub charged_credit : {tokens last now : Float} (rate : RateOption) (burst len : ℕ) → is_rate rate ≡ true → is_bounded burst ≡ true → len ≤ longest_planned
+pub charged_credit : {tokens last now : Float} (rate : Option ℕ) (burst len : ℕ) → is_rate rate ≡ true → is_bounded burst ≡ true → len ≤ longest_planned
     → Credit tokens → T (fits binary64 last) → Bounded last → T (fits binary64 now) → Bounded now → Credit (charged_of tokens last rate burst now len)
 unfolding charged_of of_int
-charged_credit Absent burst len h k s t lf l nf n = t
-charged_credit (Present bps) burst len h k s t lf l nf n =
-    credit_stays t (elapsed_bounded nf lf n l) (whole_bounded bps (rate_within bps h).1) (capacity_clear (Present bps) burst h k)
-    (of_int-fits binary64 (pos (bucket_capacity_of (Present bps) burst))) (whole_bounded len (omega arith)).clear (of_int-fits binary64 (pos len)) (planned_within len s)
+charged_credit None burst len h k s t lf l nf n = t
+charged_credit (Some bps) burst len h k s t lf l nf n =
+    credit_stays t (elapsed_bounded nf lf n l) (whole_bounded bps (rate_within bps h).1) (capacity_clear (Some bps) burst h k)
+    (of_int-fits binary64 (pos (bucket_capacity_of (Some bps) burst))) (whole_bounded len (omega arith)).clear (of_int-fits binary64 (pos len)) (planned_within len s)
 
 -- with a rate it is at most the capacity
-pub charged_capped : {tokens last now : Float} (bps burst len : ℕ) → is_rate (Present bps) ≡ true → is_bounded burst ≡ true → len ≤ longest_planned
+pub charged_capped : {tokens last now : Float} (bps burst len : ℕ) → is_rate (Some bps) ≡ true → is_bounded burst ≡ true → len ≤ longest_planned
     → Credit tokens → T (fits binary64 last) → Bounded last → T (fits binary64 now) → Bounded now
-    → T (le (charged_of tokens last (Present bps) burst now len) (whole (bucket_capacity_of (Present bps) burst)))
+    → T (le (charged_of tokens last (Some bps) burst now len) (whole (bucket_capacity_of (Some bps) burst)))
 unfolding charged_of of_int
 charged_capped bps burst len h k s t lf l nf n =
-    credit_capped t (elapsed_bounded nf lf n l) (whole_bounded bps (rate_within bps h).1) (capacity_clear (Present bps) burst h k)
-    (of_int-fits binary64 (pos (bucket_capacity_of (Present bps) burst))) (whole_bounded len (omega arith)).clear
+    credit_capped t (elapsed_bounded nf lf n l) (whole_bounded bps (rate_within bps h).1) (capacity_clear (Some bps) burst h k)
+    (of_int-fits binary64 (pos (bucket_capacity_of (Some bps) burst))) (whole_bounded len (omega arith)).clear
 
 -- what a debt waits
-pub wait_clear : {tokens : Float} (bps : ℕ) → is_rate (Present bps) ≡ true → Credit tokens → T (lt tokens (whole 0))
+pub wait_clear : {tokens : Float} (bps : ℕ) → is_rate (Some bps) ≡ true → Credit tokens → T (lt tokens (whole 0))
     → Plus (wait_of tokens (whole bps))
 unfolding of_int
 wait_clear {tokens} bps h t l =

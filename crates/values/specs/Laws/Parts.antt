@@ -1,13 +1,11 @@
--- The first part and the parts behind it; three parts are told by the lengths of the first two.
-use Rattle.std.specs.Prelude.{◌≡◌, ℕ, suc, ◌+◌, ◌<◌, ◌≤◌, Bool, true, false, cond, List, [], ◌∷◌, length, take, drop, ◌==◌}
-use Rattle.std.proofs.Math.Path.{refl, ap}
-use Rattle.std.proofs.Common.{sym, ◌∙◌, add-one, arith, lt-ltb, le-ltb, length-take}
+-- The first part and the parts behind it, and when there are three.
+use Rattle.std.specs.Prelude.{◌≡◌, ℕ, suc, ◌<◌, ◌≤◌, Bool, true, false, cond, List, [], ◌∷◌, length, Option, Some, None, ◌==◌}
+use Rattle.std.proofs.Math.Path.{refl}
+use Rattle.std.proofs.Common.{◌∙◌, add-one, arith, lt-ltb, le-ltb}
 use Rattle.std.proofs.Math.Dec.{leb-suc-suc}
-use Rattle.values.specs.declared.colons.Colons.{Colons}
-use Rattle.values.specs.declared.colons.Colons.TheVariants.{Two, Other}
-use Rattle.values.specs.Bytes.{up_to, has, before_first, behind_first, colon}
-use Rattle.values.specs.Parts.{onto, split, three, two_lengths, colons_of}
-use Rattle.values.specs.Laws.Scan.{up_to_le}
+use Rattle.std.specs.Option.{option_and_then}
+use Rattle.values.specs.Bytes.{up_to, has, before_first, behind_first, split_once, colon}
+use Rattle.values.specs.Parts.{onto, split, three, colons_of}
 
 onto_cond : (x : ℕ) (t : Bool) (l s : List ℕ) (r : List (List ℕ)) → onto x (cond t (l ∷ r) (s ∷ [])) ≡ cond t ((x ∷ l) ∷ r) ((x ∷ s) ∷ [])
 onto_cond x true l s r = refl
@@ -54,46 +52,59 @@ module _ {A : Type 0} (f : List ℕ → List ℕ → List ℕ → A) (other : A)
   three_parts k v w x true true false ew ex h i j = rw (split_at k v, h, ← ew, split_at k w, i, ← ex, split_at k x, j)
   three_parts k v w x true true true ew ex h i j = rw (split_at k v, h, ← ew, split_at k w, i, ← ex, split_at k x, j, more k)
 
-before_length : (b : ℕ) (s : List ℕ) → length (before_first b s) ≡ up_to b s
-before_length b s = omega (arith, length-take (up_to b s) s, up_to_le b s)
-
 -- how many colons there are
 module _ (v w x : List ℕ) (ew : w ≡ behind_first colon v) (ex : x ≡ behind_first colon w) where
-  pub no_colon : length v ≤ up_to colon v → colons_of v ≡ Other
+  pub no_colon : length v ≤ up_to colon v → colons_of v ≡ None
   unfolding colons_of
-  no_colon h = three_parts two_lengths Other colon v w x _ _ _ ew ex (le-ltb _ _ h) refl refl
+  no_colon h = three_parts _ None colon v w x _ _ _ ew ex (le-ltb _ _ h) refl refl
 
   module _ (first : up_to colon v < length v) where
-    pub one_colon : length w ≤ up_to colon w → colons_of v ≡ Other
+    pub one_colon : length w ≤ up_to colon w → colons_of v ≡ None
     unfolding colons_of
-    one_colon h = three_parts two_lengths Other colon v w x _ _ _ ew ex (lt-ltb _ _ first) (le-ltb _ _ h) refl
+    one_colon h = three_parts _ None colon v w x _ _ _ ew ex (lt-ltb _ _ first) (le-ltb _ _ h) refl
 
     module _ (second : up_to colon w < length w) where
-      pub two_colons : length x ≤ up_to colon x → colons_of v ≡ Two (up_to colon v) (up_to colon w)
+      pub two_colons : length x ≤ up_to colon x → colons_of v ≡ Some (before_first colon v, before_first colon w, x)
       unfolding colons_of
-      two_colons h = three_parts two_lengths Other colon v w x _ _ _ ew ex (lt-ltb _ _ first) (lt-ltb _ _ second) (le-ltb _ _ h) ∙ rw (before_length colon v, before_length colon w)
+      two_colons h = three_parts _ None colon v w x _ _ _ ew ex (lt-ltb _ _ first) (lt-ltb _ _ second) (le-ltb _ _ h)
 
-      pub more_colons : up_to colon x < length x → colons_of v ≡ Other
+      pub more_colons : up_to colon x < length x → colons_of v ≡ None
       unfolding colons_of
-      more_colons h = three_parts two_lengths Other colon v w x _ _ _ ew ex (lt-ltb _ _ first) (lt-ltb _ _ second) (lt-ltb _ _ h)
+      more_colons h = three_parts _ None colon v w x _ _ _ ew ex (lt-ltb _ _ first) (lt-ltb _ _ second) (lt-ltb _ _ h)
 
--- what the lengths of the first two parts tell
-abbrev pub parts_by : {A : Type 0} → (List ℕ → List ℕ → List ℕ → A) → A → List ℕ → Colons → A
-parts_by f other v (Two p q) = f (take p v) (take q (drop (p + 1) v)) (drop (q + 1) (drop (p + 1) v))
-parts_by f other v Other = other
+-- three parts, by one split and another
+pub colons_split : (v : List ℕ) → colons_of v ≡ option_and_then (λ p. option_and_then (λ q. cond (has colon q.1) None (Some (p.0, q.0, q.1))) (split_once colon p.1)) (split_once colon v)
+unfolding colons_of
+colons_split v = three_parts _ None colon v _ _ _ _ _ refl refl refl refl refl ∙ at (has colon v) (has colon w) refl
+  where
+    w : List ℕ
+    w = behind_first colon v
+
+    first : Option (List ℕ × List ℕ)
+    first = Some (before_first colon v, w)
+
+    third : List ℕ → List ℕ → List ℕ → Option (List ℕ × List ℕ × List ℕ)
+    third a b x = cond (has colon x) None (Some (a, b, x))
+
+    at : (s t : Bool) → has colon w ≡ t → cond s (cond t (third (before_first colon v) (before_first colon w) (behind_first colon w)) None) None
+        ≡ option_and_then (λ p. option_and_then (λ q. third p.0 q.0 q.1) (split_once colon p.1)) (cond s first None)
+    at false t h = refl
+    at true false h = rw h
+    at true true h = rw h
+
+-- what the three parts tell
+abbrev pub parts_by : {A : Type 0} → (List ℕ → List ℕ → List ℕ → A) → A → Option (List ℕ × List ℕ × List ℕ) → A
+parts_by f other (Some p) = f p.0 p.1 p.2
+parts_by f other None = other
 
 module _ {A : Type 0} (f : List ℕ → List ℕ → List ℕ → A) (other : A) (v : List ℕ) where
-  cases : (s t u : Bool) → has colon v ≡ s → has colon (behind_first colon v) ≡ t → has colon (behind_first colon (behind_first colon v)) ≡ u
-      → three f other (split colon v) ≡ parts_by f other v (colons_of v)
-  unfolding colons_of
-  cases s t u h i j = three_parts f other colon v _ _ s t u refl refl h i j ∙ told s t u ∙ ap (parts_by f other v) (sym (three_parts two_lengths Other colon v _ _ s t u refl refl h i j))
-    where
-      told : (s t u : Bool) → cond s (cond t (cond u other (f (before_first colon v) (before_first colon (behind_first colon v)) (behind_first colon (behind_first colon v)))) other) other
-          ≡ parts_by f other v (cond s (cond t (cond u Other (two_lengths (before_first colon v) (before_first colon (behind_first colon v)) (behind_first colon (behind_first colon v)))) Other) Other)
-      told false t u = refl
-      told true false u = refl
-      told true true true = refl
-      told true true false = rw (before_length colon v, before_length colon (behind_first colon v))
+  told : (l : List (List ℕ)) → three f other l ≡ parts_by f other (three (λ a b c. Some (a, b, c)) None l)
+  told [] = refl
+  told (a ∷ []) = refl
+  told (a ∷ b ∷ []) = refl
+  told (a ∷ b ∷ c ∷ []) = refl
+  told (a ∷ b ∷ c ∷ d ∷ l) = refl
 
-  pub three_told : three f other (split colon v) ≡ parts_by f other v (colons_of v)
-  three_told = cases _ _ _ refl refl refl
+  pub three_told : three f other (split colon v) ≡ parts_by f other (colons_of v)
+  unfolding colons_of
+  three_told = told (split colon v)

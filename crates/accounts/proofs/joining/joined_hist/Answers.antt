@@ -16,13 +16,13 @@ long c = search c.well_formed
 
 pub overflow_add-target : goal.overflow_add-target
 overflow_add-target c =
-    let was : get_or c.loop-i.target c.loop-i.i 0 ≡ get_or c.args.target c.loop-i.i 0 = rw c.loop-i.invariant.1 (front_entry c.args.target c.args.hist c.loop-i.i (rw (long (goal.at.overflow_add-target c).Start) c.loop-i-test.true)) in
-    rw was (omega (arith, counter_at c.args.target c.loop-i.i c.requires.0, counter_at c.args.hist c.loop-i.i c.requires.1))
+    let was : get_or c.loop-i.target c.loop-i.i 0 ≡ get_or c.args.target c.loop-i.i 0 = rw c.loop-i.invariant.1 (front_entry c.args.target c.args.hist.now c.loop-i.i (rw (long (goal.at.overflow_add-target c).Start) c.loop-i-test.true)) in
+    rw was (omega (arith, counter_at c.args.target c.loop-i.i c.requires.0, counter_at c.args.hist.now c.loop-i.i c.requires.1))
 
 pub loop-i-preserved : goal.loop-i-preserved
 loop-i-preserved c =
-    (search rules, rw c.loop-i.invariant.1 (front_step c.args.target c.args.hist c.loop-i.i (rw (long (goal.at.loop-i-preserved c).Start) c.loop-i-test.true)))
+    (search rules, rw c.loop-i.invariant.1 (front_step c.args.target c.args.hist.now c.loop-i.i (rw (long (goal.at.loop-i-preserved c).Start) c.loop-i-test.true)))
 
 pub returns : goal.returns
 returns c =
-    c.loop-i.invariant.1 ∙ front_end c.args.target c.args.hist c.loop-i.i (rw (long (goal.at.returns c).Start) c.loop-i-test.false)
+    c.loop-i.invariant.1 ∙ front_end c.args.target c.args.hist.now c.loop-i.i (rw (long (goal.at.returns c).Start) c.loop-i-test.false)

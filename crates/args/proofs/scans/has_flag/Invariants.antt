@@ -1,7 +1,5 @@
 -- The flag stands in the text where it stands in what is left behind each pair; the step that is no pair says whether it does.
-use mathlib.Core.Path.{◌≡◌}
-use Prim.Native.Nat.{◌-◌}
-use lib.ListN.{length, drop}
+use Rattle.std.proofs.Common.{◌≡◌, ◌-◌, length, drop}
 use Rattle.args.specs.Arguments.{gathered, flag_in}
 use Rattle.args.proofs.scans.has_flag.Given as goal
 

@@ -1,5 +1,5 @@
 -- The turns are counted down.
-use Rattle.script.specs.Turns.{fewer}
+use Rattle.script.specs.Old.Turns.{fewer}
 use Rattle.arrivals.proofs.input.run.Goals as goal
 
 pub loop-turns-smaller : goal.loop-turns-smaller

@@ -1,12 +1,14 @@
--- Too many entries, none, or the loop.
-use borrow.Author.Tests.{lt-leb, le-leb}
+-- The kills are those of the front that is counted.
+use borrow.Author.Rules.{rules}
+use borrow.Author.Tests.{tests, le-leb}
+use Rattle.std.proofs.Common.{◌∙◌}
+use Rattle.std.proofs.lemmas.Iterator.{YieldsList-from_slice, YieldsList-from_take}
+use Rattle.std.proofs.lemmas.Iterator.Search.{all_from_yields_List}
+use Rattle.settings.specs.Judgement.{is_kill}
 use Rattle.judgement.proofs.lists.are_tcp_kills.Goals as goal
 
-pub returns-then-count-gt-MAX_ENTRIES : goal.returns-then-count-gt-MAX_ENTRIES
-returns-then-count-gt-MAX_ENTRIES c = rw (lt-leb _ _ c.if-count-gt-MAX_ENTRIES.true)
-
-pub returns-then-count-eq0 : goal.returns-then-count-eq0
-returns-then-count-eq0 c = rw c.if-count-eq0.true
-
-pub returns : goal.returns
-returns c = rw (c.are_kills.ensures, le-leb _ _ c.if-count-gt-MAX_ENTRIES.false)
+pub returns-then-count-le-MAX_ENTRIES : goal.returns-then-count-le-MAX_ENTRIES
+returns-then-count-le-MAX_ENTRIES c =
+    let ran = c.all.ensures.ran in
+    all_from_yields_List is_kill _ _ _ ran (YieldsList-from_take c.args.cfg.now.tcp_kill_count (YieldsList-from_slice c.args.cfg.now.tcp_kills cc) c.take.ensures.count) (λ x b q k. search (rules, tests))
+    ∙ rw (le-leb _ _ c.if-count-le-MAX_ENTRIES.true)

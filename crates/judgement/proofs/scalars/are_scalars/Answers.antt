@@ -1,7 +1,10 @@
 -- Each setting by its own test, in the order of the definition.
+use Rattle.std.proofs.Math.Bool.{and_assoc}
 use Rattle.judgement.specs.Scalars.{are_scalars_of}
 use Rattle.judgement.proofs.scalars.are_scalars.Goals as goal
 
 pub returns : goal.returns
 unfolding are_scalars_of
-returns c = rw (c.is_bounded-2.ensures, c.is_mtu.ensures, c.is_bounded.ensures, c.is_rate.ensures, c.is_probability-3.ensures, c.is_time-3.ensures, c.is_probability-2.ensures, c.is_time-2.ensures, c.is_time.ensures, c.is_ge.ensures, c.is_probability.ensures)
+returns c =
+    rw (c.is_bounded-2.ensures, c.is_mtu.ensures, c.is_bounded.ensures, c.is_rate.ensures, c.is_probability-3.ensures, c.is_time-3.ensures, c.is_probability-2.ensures, c.is_time-2.ensures, c.is_time.ensures, c.is_ge.ensures, c.is_probability.ensures)
+    (simp and_assoc)

@@ -1,20 +1,11 @@
--- The four words are compared in order.
-use mathlib.Core.Path.{sym, ◌∙◌}
-use Rattle.options.specs.Scalars.{yes_of}
+-- Where none of the first three words is the value the fourth decides.
+use Rattle.std.proofs.Common.{◌≡◌, false, sym, ◌∙◌}
+use Rattle.values.specs.Bytes.{bytes, same}
 use Rattle.options.proofs.scalars.says_yes.Goals as goal
 
-pub returns-then-is_same : goal.returns-then-is_same
-unfolding yes_of
-returns-then-is_same c = rw (sym c.is_same.ensures ∙ c.if-is_same.true)
-
-pub returns-then-is_same-2 : goal.returns-then-is_same-2
-unfolding yes_of
-returns-then-is_same-2 c = rw (sym c.is_same.ensures ∙ c.if-is_same.false, sym c.is_same-2.ensures ∙ c.if-is_same-2.true)
-
-pub returns-then-is_same-3 : goal.returns-then-is_same-3
-unfolding yes_of
-returns-then-is_same-3 c = rw (sym c.is_same.ensures ∙ c.if-is_same.false, sym c.is_same-2.ensures ∙ c.if-is_same-2.false, sym c.is_same-3.ensures ∙ c.if-is_same-3.true)
-
 pub returns : goal.returns
-unfolding yes_of
-returns c = rw (sym c.is_same.ensures ∙ c.if-is_same.false, sym c.is_same-2.ensures ∙ c.if-is_same-2.false, sym c.is_same-3.ensures ∙ c.if-is_same-3.false, c.is_same-4.ensures)
+returns c =
+    let one : same c.args.v.now (bytes "1") ≡ false = rw (← c.as_slice.ensures) (sym c.eq.ensures ∙ c.if-eq.false) in
+    let yes : same c.args.v.now (bytes "true") ≡ false = rw (← c.as_slice-2.ensures) (sym c.eq-2.ensures ∙ c.if-eq-2.false) in
+    let on : same c.args.v.now (bytes "yes") ≡ false = rw (← c.as_slice-3.ensures) (sym c.eq-3.ensures ∙ c.if-eq-3.false) in
+    rw (one, yes, on, c.eq-4.ensures, c.as_slice-4.ensures)

@@ -1,10 +1,10 @@
--- What is left of the digits gives the same as the whole: in each turn two digits go, and the text has their byte.
-use Rattle.std.proofs.Common.{◌≡◌, ◌-◌, ◌≤◌, length, drop}
-use Rattle.script.specs.Hex.{decode_from}
+-- What is decoded so far, decoded on over what is left, is what the whole gives.
+use Rattle.std.proofs.Common.{◌≡◌, length}
+use Rattle.script.specs.Hex.{decode_from, decode_of}
 use Rattle.script.proofs.hex.decode.Given as goal
 
-abbrev pub invariant-loop-i : goal.invariant-loop-i
-invariant-loop-i l = (l.i ≤ length l.digits) × ((l.n ≤ l.i) × ((length l.text ≡ length l.initial.text) × (decode_from 0 l.initial.text l.digits ≡ decode_from l.n l.text (drop l.i l.digits))))
+abbrev pub invariant-loop-rest : goal.invariant-loop-rest
+invariant-loop-rest l = decode_from l.text.items l.rest ≡ decode_of l.digits
 
-abbrev pub decreases-loop-i : goal.decreases-loop-i
-decreases-loop-i l = length l.digits - l.i
+abbrev pub decreases-loop-rest : goal.decreases-loop-rest
+decreases-loop-rest l = length l.rest

@@ -1,16 +1,10 @@
--- The two words are compared in order.
-use mathlib.Core.Path.{sym, ◌∙◌}
-use Rattle.settings.specs.Windows.{parse_style_of}
+-- Neither of the two words is the style.
+use Rattle.std.proofs.Common.{◌≡◌, false, sym, ◌∙◌}
+use Rattle.values.specs.Bytes.{bytes, same}
 use Rattle.settings.proofs.kill.parse_style.Goals as goal
 
-pub returns-then-is_same : goal.returns-then-is_same
-unfolding parse_style_of
-returns-then-is_same c = rw (sym c.is_same.ensures ∙ c.if-is_same.true)
-
-pub returns-then-is_same-2 : goal.returns-then-is_same-2
-unfolding parse_style_of
-returns-then-is_same-2 c = rw (sym c.is_same.ensures ∙ c.if-is_same.false, sym c.is_same-2.ensures ∙ c.if-is_same-2.true)
-
-pub returns : goal.returns
-unfolding parse_style_of
-returns c = rw (sym c.is_same.ensures ∙ c.if-is_same.false, sym c.is_same-2.ensures ∙ c.if-is_same-2.false)
+pub returns-else-eq-2 : goal.returns-else-eq-2
+returns-else-eq-2 c =
+    let rst : same c.args.v.now (bytes "rst") ≡ false = rw (← c.as_slice.ensures) (sym c.eq.ensures ∙ c.if-eq.false) in
+    let hold : same c.args.v.now (bytes "hold") ≡ false = rw (← c.as_slice-else-eq.ensures) (sym c.eq-else-eq.ensures ∙ c.if-eq-2.false) in
+    rw (rst, hold)

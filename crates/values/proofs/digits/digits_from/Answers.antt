@@ -1,26 +1,21 @@
--- What is read so far, read on over what is left, is what the whole gives.
-use Rattle.std.proofs.Common.{◌≡◌, ℕ, ◌+◌, List, ◌∷◌, get_or, drop, sym, ap, ◌∙◌, arith, rules}
-use Rattle.values.specs.Laws.Digits.{no_digit, digit_more_lem, digit_over, digits_end}
-use Rattle.values.specs.Laws.Scan.{step, end}
+-- Each digit is read on from the number so far.
+use Rattle.std.proofs.Common.{◌≡◌, ◌∙◌, sym, arith, ◌+◌, drop, rules}
+use Rattle.values.specs.Stages.{read_on}
 use Rattle.values.specs.Whole.{digits_from}
-use Rattle.numbers.specs.Laws.Digits.{digit_range}
+use Rattle.values.specs.Laws.Digits.{digits_cons, digits_end}
+use Rattle.values.specs.Laws.Scan.{step, end}
 use Rattle.values.proofs.digits.digits_from.Goals as goal
-use Rattle.values.proofs.digits.digits_from.Goals.{In-loop-i}
+use Rattle.values.proofs.digits.digits_from.Goals.{After-digit_from}
 
-turn : (c : In-loop-i) → digits_from c.args.n c.args.s.now ≡ digits_from c.loop-i.value (get_or c.args.s.now c.loop-i.i 0 ∷ drop (c.loop-i.i + 1) c.args.s.now)
-turn c = c.loop-i.invariant.1.1 ∙ ap (λ (l : List ℕ). digits_from c.loop-i.value l) (step c.args.s.now c.loop-i.i c.loop-i-test.true)
+-- what is left is the next digit and then the others
+next : (c : After-digit_from) → digits_from c.args.n c.args.s.now ≡ read_on c.digit_from.result (drop (c.loop-b.b-index + 1) c.args.s.now)
+next c = c.loop-b.invariant.0 ∙ rw (step c.args.s.now c.loop-b.b-index c.loop-b-test.true, digits_cons, ← c.digit_from.ensures)
 
-pub returns-then-not-is_digit : goal.returns-then-not-is_digit
-returns-then-not-is_digit c = sym (turn (goal.at.returns-then-not-is_digit c).In-loop-i ∙ no_digit _ _ _ (sym c.is_digit.ensures ∙ c.if-not-is_digit.true))
+pub returns-in_err-value : goal.returns-in_err-value
+returns-in_err-value c = rw (next (goal.at.returns-in_err-value c).After-digit_from, c.in_err-value.was) (search rules)
 
-pub overflow_sub-d : goal.overflow_sub-d
-overflow_sub-d c = omega (arith, c.wide-d.ensures, digit_range (get_or c.args.s.now c.loop-i.i 0) (sym c.is_digit.ensures ∙ c.if-not-is_digit.false))
-
-pub returns-then-d-value : goal.returns-then-d-value
-returns-then-d-value c = sym (turn (goal.at.returns-then-d-value c).In-loop-i ∙ digit_over _ _ _ (sym c.is_digit.ensures ∙ c.if-not-is_digit.false) (omega (arith, c.if-d-value.true, c.wide-d.ensures)))
-
-pub loop-i-preserved : goal.loop-i-preserved
-loop-i-preserved c = (search rules, (search rules, turn (goal.at.loop-i-preserved c).In-loop-i ∙ digit_more_lem _ _ _ (sym c.is_digit.ensures ∙ c.if-not-is_digit.false) ∙ rw c.wide-d.ensures))
+pub loop-b-preserved : goal.loop-b-preserved
+loop-b-preserved c = (next (goal.at.loop-b-preserved c).After-digit_from ∙ rw c.in_ok-value.was, search rules)
 
 pub returns : goal.returns
-returns c = sym (c.loop-i.invariant.1.1 ∙ rw (end c.args.s.now c.loop-i.i c.loop-i-test.false) (digits_end _ c.loop-i.invariant.1.0))
+returns c = sym (c.loop-b.invariant.0 ∙ rw (end c.args.s.now c.loop-b.b-index (omega arith)) (digits_end _ c.loop-b.invariant.1))

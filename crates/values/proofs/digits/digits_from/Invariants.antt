@@ -1,10 +1,7 @@
--- What is read so far, read on over what is left, is what the whole gives.
-use Rattle.std.proofs.Common.{◌≡◌, ◌-◌, ◌^◌, ◌<◌, ◌≤◌, length, drop}
+-- What is left is read on from the number so far.
+use Rattle.std.proofs.Common.{◌≡◌, ◌^◌, ◌<◌, drop}
 use Rattle.values.specs.Whole.{digits_from}
 use Rattle.values.proofs.digits.digits_from.Given as goal
 
-abbrev pub invariant-loop-i : goal.invariant-loop-i
-invariant-loop-i l = (l.i ≤ length l.s) × ((l.value < 2 ^ 64) × (digits_from l.n l.s ≡ digits_from l.value (drop l.i l.s)))
-
-abbrev pub decreases-loop-i : goal.decreases-loop-i
-decreases-loop-i l = length l.s - l.i
+abbrev pub invariant-loop-b : goal.invariant-loop-b
+invariant-loop-b l = (digits_from l.n l.s ≡ digits_from l.value (drop l.b-index l.s)) × (l.value < 2 ^ 64)

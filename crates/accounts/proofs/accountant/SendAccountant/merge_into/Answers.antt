@@ -1,25 +1,20 @@
 -- Each return is what the definition gives by the same test of both records.
-use mathlib.Core.Path.{◌≡◌, sym, ◌∙◌}
-use mathlib.Core.Bool.{true, ◌&&◌, and-eq-true_iff}
-use Rattle.accounts.specs.Counters.{are_counters, accountant_counters, stats_counters}
+use Rattle.std.proofs.Common.{sym, ◌∙◌}
+use Rattle.std.proofs.Math.Bool.{and-eq-true_iff}
 use Rattle.accounts.specs.Calls.{merge_into_of}
+use Rattle.accounts.specs.Laws.Small.{small_sends, small_stats}
 use Rattle.accounts.proofs.accountant.SendAccountant.merge_into.Goals as goal
-use Rattle.accounts.proofs.accountant.SendAccountant.merge_into.Goals.{After-in_range-2, Else-not-counted}
-
--- the test is on the counters of both records
-judged : (c : After-in_range-2) → (c.in_range.result && c.in_range-2.result) ≡ (are_counters (accountant_counters c.args.self) && are_counters (stats_counters c.args.st))
-judged c = rw (c.in_range.ensures, c.in_range-2.ensures)
+use Rattle.accounts.proofs.accountant.SendAccountant.merge_into.Goals.{Else-not-counted}
 
 pub returns-then-not-counted : goal.returns-then-not-counted
 unfolding merge_into_of
-returns-then-not-counted c = rw (← (judged (goal.at.returns-then-not-counted c).After-in_range-2), c.if-not-counted.true)
-
-counted : (c : Else-not-counted) → (are_counters (accountant_counters c.args.self) && are_counters (stats_counters c.args.st)) ≡ true
-counted c = sym (judged (goal.at.Else-not-counted c).After-in_range-2) ∙ c.if-not-counted.false
+returns-then-not-counted c = rw (← c.in_range.ensures, ← c.in_range-2.ensures, c.if-not-counted.true)
 
 pub merged-requires : goal.merged-requires
-merged-requires c = (and-eq-true_iff (are_counters (accountant_counters c.args.self)) (are_counters (stats_counters c.args.st))).0 (counted c)
+merged-requires c =
+    let both = (and-eq-true_iff c.in_range.result c.in_range-2.result).0 c.if-not-counted.false in
+    record { sends = small_sends c.args.self (sym c.in_range.ensures ∙ both.0); stats = small_stats c.args.st (sym c.in_range-2.ensures ∙ both.1) }
 
 pub returns : goal.returns
 unfolding merge_into_of
-returns c = rw (counted (goal.at.returns c).Else-not-counted, c.merged.ensures)
+returns c = rw (← c.in_range.ensures, ← c.in_range-2.ensures, c.if-not-counted.false, c.merged.ensures)

@@ -35,9 +35,9 @@ overflow_add-self c = omega (arith, small (goal.at.overflow_add-self c).Else-not
 pub overflow_add-self-2 : goal.overflow_add-self-2
 overflow_add-self-2 c = omega (arith, small (goal.at.overflow_add-self-2 c).Else-not-in_range, length_within c.args.len (taken (goal.at.overflow_add-self-2 c).Else-not-in_range))
 
-pub recorded-self-requires : goal.recorded-self-requires
-recorded-self-requires c = (small (goal.at.recorded-self-requires c).Else-not-in_range).latencies
+pub record-requires : goal.record-requires
+record-requires c = (small (goal.at.record-requires c).Else-not-in_range).latencies
 
 pub returns : goal.returns
 unfolding on_send_of sent_of
-returns c = rw (taken (goal.at.returns c).Else-not-in_range, counted (goal.at.returns c).Else-not-in_range, c.recorded-self.ensures)
+returns c = rw (taken (goal.at.returns c).Else-not-in_range, counted (goal.at.returns c).Else-not-in_range, c.record.ensures)

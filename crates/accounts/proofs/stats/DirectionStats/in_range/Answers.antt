@@ -9,7 +9,7 @@ use Rattle.accounts.proofs.stats.DirectionStats.in_range.Goals as goal
 pub returns : goal.returns
 unfolding stats_counters latencies_of
 returns c =
-    let s = c.args.self in
+    let s = c.args.self.now in
     c.is_counter.ensures
     ∙ rw c.counter_bits-bits.ensures
     (gathered

@@ -1,6 +1,5 @@
 -- Each return is what the definition gives by the same test.
-use mathlib.Core.Path.{◌≡◌, sym, ◌∙◌}
-use mathlib.Core.Bool.{true}
+use Rattle.std.proofs.Common.{◌≡◌, true, sym, ◌∙◌}
 use Rattle.accounts.specs.Counters.{are_counters, stats_counters}
 use Rattle.accounts.specs.Calls.{record_delivered_of}
 use Rattle.accounts.specs.Laws.Small.{small_stats}
@@ -14,9 +13,9 @@ returns-then-not-in_range c = rw (← c.in_range.ensures, c.if-not-in_range.true
 counted : (c : Else-not-in_range) → are_counters (stats_counters c.args.self) ≡ true
 counted c = sym c.in_range.ensures ∙ c.if-not-in_range.false
 
-pub recorded-requires : goal.recorded-requires
-recorded-requires c = rw c.latencies.ensures (small_stats c.args.self (counted (goal.at.recorded-requires c).Else-not-in_range)).latencies
+pub record-requires : goal.record-requires
+record-requires c = rw c.latencies-recorded.ensures (small_stats c.args.self (counted (goal.at.record-requires c).Else-not-in_range)).latencies
 
 pub returns : goal.returns
 unfolding record_delivered_of
-returns c = rw (counted (goal.at.returns c).Else-not-in_range, c.with_latencies-self.ensures, c.recorded.ensures, c.latencies.ensures)
+returns c = rw (counted (goal.at.returns c).Else-not-in_range, c.with_latencies.ensures, c.record.ensures, c.latencies-recorded.ensures)

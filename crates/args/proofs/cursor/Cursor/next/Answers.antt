@@ -1,22 +1,21 @@
--- The zero byte that closes the argument is within the text, and each return is what the definition chooses by the same tests.
-use borrow.Author.Tests.{lt-ltb, le-ltb}
-use native.Mathlib.Omega.{arith}
-use mathlib.Core.Path.{sym, ap, ◌∙◌}
-use lib.ListN.{length, length-drop}
+-- Each return is what the definition chooses by the same tests.
+use Rattle.values.specs.Laws.Scan.{split_none, split_some}
+use Rattle.args.specs.Laws.Dashes.{dashed_is}
 use Rattle.args.specs.Places.{next_of}
 use Rattle.args.proofs.cursor.Cursor.next.Goals as goal
 
-pub returns-then-rest-n : goal.returns-then-rest-n
+pub returns-in-None : goal.returns-in-None
 unfolding next_of
-returns-then-rest-n c = rw (← c.after-rest.ensures, ← c.up_to-n.ensures, le-ltb _ _ c.if-rest-n.true)
+returns-in-None c = rw (← c.after.ensures, split_none 0 c.after.result.now c.in-None.ensures)
 
-pub returns-then-not-is_same : goal.returns-then-not-is_same
+pub returns-then-starts_with : goal.returns-then-starts_with
 unfolding next_of
-returns-then-not-is_same c = rw (← c.after-rest.ensures, ← c.up_to-n.ensures, lt-ltb _ _ c.if-rest-n.false, ← c.front.ensures, ← c.front-2.ensures, sym c.is_same.ensures ∙ c.if-not-is_same.true)
+returns-then-starts_with c =
+    let h = split_some 0 c.after.result.now _ c.in-Some.ensures in
+    rw (← c.after.ensures, h.0, ← h.1, dashed_is, ← c.starts_with.ensures.value, c.if-starts_with.true) c.keyed.ensures
 
-pub keyed-requires : goal.keyed-requires
-keyed-requires c = omega (arith, ap length c.after-rest.ensures, length-drop c.args.self.at c.args.text.now, c.if-rest-n.false)
-
-pub returns : goal.returns
+pub returns-else-starts_with : goal.returns-else-starts_with
 unfolding next_of
-returns c = rw (← c.after-rest.ensures, ← c.up_to-n.ensures, lt-ltb _ _ c.if-rest-n.false, ← c.front.ensures, ← c.front-2.ensures, sym c.is_same.ensures ∙ c.if-not-is_same.false) c.keyed.ensures
+returns-else-starts_with c =
+    let h = split_some 0 c.after.result.now _ c.in-Some.ensures in
+    rw (← c.after.ensures, h.0, ← h.1, dashed_is, ← c.starts_with.ensures.value, c.if-starts_with.false)

@@ -1,73 +1,79 @@
--- The next place of the key is that of the step, or the next one behind it; each step comes nearer to the end of the text.
-use borrow.Author.Rules.{rules}
-use borrow.Author.Tests.{eq-eqb, ne_eqb}
-use native.Mathlib.Omega.{arith}
-use mathlib.Core.List.{◌++◌}
-use mathlib.Core.Bool.{true, cond}
-use mathlib.Core.Path.{◌≡◌, refl, sym, ap, ◌∙◌}
-use Prim.Native.Nat.{◌<◌, ◌-◌}
-use lib.ListN.{length}
-use Rattle.values.specs.Laws.Scan.{step, end, same_length}
+-- The next value of the key is that of the step, or the next one behind it; each step comes nearer to the end of the text.
+use Rattle.std.proofs.Common.{◌≡◌, ◌∙◌, sym, arith, eq-eqb, ne_eqb, ◌++◌, ◌-◌, ◌<◌, length, true, cond, Some}
 use Rattle.values.specs.Bytes.{same}
-use Rattle.args.specs.declared.cursor.Found.TheVariants.{At}
+use Rattle.values.specs.Laws.Scan.{step, end, same_length}
+use Rattle.args.specs.Items.{read_of}
+use Rattle.args.specs.Laws.Keys.{same_append}
 use Rattle.args.specs.Places.{has_next, hit_at, hit_of}
 use Rattle.args.proofs.Steps.{nearer}
 use Rattle.args.proofs.Hits.{hit_turn}
-use Rattle.args.specs.Laws.Keys.{same_append}
 use Rattle.args.proofs.cursor.Cursor.next_of.Goals as goal
-use Rattle.args.proofs.cursor.Cursor.next_of.Goals.{After-after-tail, After-next-step, After-part-key, In-Pair}
+use Rattle.args.proofs.cursor.Cursor.next_of.Goals.{After-next, In-Ok-Some-Pair, In-Some}
 
-turn : (c : After-next-step) → hit_of c.args.text.now (c.args.prefix.now ++ c.args.name.now) c.args.self.at ≡ hit_at c.args.text.now (c.args.prefix.now ++ c.args.name.now) c.next-step.result c.next-step.result.arg (hit_of c.args.text.now (c.args.prefix.now ++ c.args.name.now) c.next-step.result.cursor.at)
-turn c = c.args-2.invariant ∙ hit_turn c.args.text.now (c.args.prefix.now ++ c.args.name.now) c.args-2.self.at c.next-step.result c.next-step.ensures
+turn : (c : After-next) → hit_of c.args.text.now (c.args.prefix.now ++ c.args.name.now) c.args.self.at ≡ hit_at (c.args.prefix.now ++ c.args.name.now) c.next.result.0.at (read_of c.next.result.1) (hit_of c.args.text.now (c.args.prefix.now ++ c.args.name.now) c.next.result.0.at)
+turn c = c.args-2.invariant ∙ hit_turn c.args.text.now (c.args.prefix.now ++ c.args.name.now) c.args-2.self.at _ c.next.ensures
 
-nearer-on : (c : After-next-step) → has_next c.next-step.result.arg ≡ true → length c.args.text.now - c.next-step.result.cursor.at < length c.args.text.now - c.args-2.self.at
-nearer-on c h = nearer c.args.text.now c.args-2.self.at c.next-step.result c.next-step.ensures h
+nearer-on : (c : After-next) → has_next (read_of c.next.result.1) ≡ true → length c.args.text.now - c.next.result.0.at < length c.args.text.now - c.args-2.self.at
+nearer-on c h = nearer c.args.text.now c.args-2.self.at _ c.next.ensures h
 
-nearer-pair : (c : In-Pair) → length c.args.text.now - c.next-step.result.cursor.at < length c.args.text.now - c.args-2.self.at
-nearer-pair c = nearer-on (goal.at.In-Pair c).After-next-step (ap has_next c.in-Pair.is)
+nearer-pair : (c : In-Ok-Some-Pair) → length c.args.text.now - c.next.result.0.at < length c.args.text.now - c.args-2.self.at
+nearer-pair c = let h = rw c.in-Ok-Some-Pair.is at c.in-Ok-Some-Pair.field-0-is in nearer-on (goal.at.In-Ok-Some-Pair c).After-next (rw (c.in-Ok-Some-Pair.is, h))
 
-turn-pair : (c : After-part-key) → hit_of c.args.text.now (c.args.prefix.now ++ c.args.name.now) c.args.self.at ≡ cond (same c.part-key.result.now (c.args.prefix.now ++ c.args.name.now)) (record { cursor = c.next-step.result.cursor; found = At c.in-Pair.v c.in-Pair.l }) (hit_of c.args.text.now (c.args.prefix.now ++ c.args.name.now) c.next-step.result.cursor.at)
-turn-pair c = turn (goal.at.After-part-key c).After-next-step ∙ rw (c.in-Pair.is, ← c.part-key.ensures)
+turn-pair : (c : In-Ok-Some-Pair) → hit_of c.args.text.now (c.args.prefix.now ++ c.args.name.now) c.args.self.at
+    ≡ cond (same c.in-Ok-Some-Pair.key.now (c.args.prefix.now ++ c.args.name.now)) (c.next.result.0.at, Some c.in-Ok-Some-Pair.value.now) (hit_of c.args.text.now (c.args.prefix.now ++ c.args.name.now) c.next.result.0.at)
+turn-pair c =
+    let h = rw c.in-Ok-Some-Pair.is at c.in-Ok-Some-Pair.field-0-is in
+    let i = rw (c.in-Ok-Some-Pair.is, h) at c.in-Ok-Some-Pair.field-0-0-is in
+    turn (goal.at.In-Ok-Some-Pair c).After-next ∙ rw (c.in-Ok-Some-Pair.is, h, i)
 
 -- the front of the key is the prefix, so its tail decides
-tail-decides : (c : After-after-tail) → same c.part-key.result.now (c.args.prefix.now ++ c.args.name.now) ≡ same c.after-tail.result.now c.args.name.now
-tail-decides c = same_append c.part-key.result.now c.args.prefix.now c.args.name.now ∙ rw (← c.front.ensures, sym c.is_same.ensures ∙ c.if-not-is_same.false, ← c.after-tail.ensures)
+tail-decides : (c : In-Some) → same c.in-Ok-Some-Pair.key.now (c.args.prefix.now ++ c.args.name.now) ≡ same c.in-Some.tail.now c.args.name.now
+tail-decides c = same_append c.in-Ok-Some-Pair.key.now c.args.prefix.now c.args.name.now ∙ rw (c.in-Some.ensures.cases.0, ← c.in-Some.ensures.cases.1)
 
-pub args-2-init : goal.args-2-init
-args-2-init c = refl
+pub args-2-smaller-in-Ok-Some-Flag : goal.args-2-smaller-in-Ok-Some-Flag
+args-2-smaller-in-Ok-Some-Flag c =
+    let h = rw c.in-Ok-Some-Flag.is at c.in-Ok-Some-Flag.field-0-is in
+    nearer-on (goal.at.args-2-smaller-in-Ok-Some-Flag c).After-next (rw (c.in-Ok-Some-Flag.is, h))
 
-pub returns-in-End : goal.returns-in-End
-returns-in-End c = sym (turn (goal.at.returns-in-End c).After-next-step ∙ rw c.in-End.is)
+pub args-2-preserved-in-Ok-Some-Flag : goal.args-2-preserved-in-Ok-Some-Flag
+args-2-preserved-in-Ok-Some-Flag c =
+    let h = rw c.in-Ok-Some-Flag.is at c.in-Ok-Some-Flag.field-0-is in
+    let i = rw (c.in-Ok-Some-Flag.is, h) at c.in-Ok-Some-Flag.field-0-0-is in
+    turn (goal.at.args-2-preserved-in-Ok-Some-Flag c).After-next ∙ rw (c.in-Ok-Some-Flag.is, h, i)
 
-pub returns-in-Refused : goal.returns-in-Refused
-returns-in-Refused c = sym (turn (goal.at.returns-in-Refused c).After-next-step ∙ rw c.in-Refused.is)
+pub args-2-smaller-in_default : goal.args-2-smaller-in_default
+args-2-smaller-in_default c = nearer-pair (goal.at.args-2-smaller-in_default c).In-Ok-Some-Pair
 
-pub args-2-smaller-in-Flag : goal.args-2-smaller-in-Flag
-args-2-smaller-in-Flag c = nearer-on (goal.at.args-2-smaller-in-Flag c).After-next-step (ap has_next c.in-Flag.is)
-
-pub args-2-preserved-in-Flag : goal.args-2-preserved-in-Flag
-args-2-preserved-in-Flag c = turn (goal.at.args-2-preserved-in-Flag c).After-next-step ∙ rw c.in-Flag.is
-
-pub args-2-smaller-then-not-is_same : goal.args-2-smaller-then-not-is_same
-args-2-smaller-then-not-is_same c = nearer-pair (goal.at.args-2-smaller-then-not-is_same c).In-Pair
-
-pub args-2-preserved-then-not-is_same : goal.args-2-preserved-then-not-is_same
-args-2-preserved-then-not-is_same c = turn-pair (goal.at.args-2-preserved-then-not-is_same c).After-part-key ∙ rw (same_append c.part-key.result.now c.args.prefix.now c.args.name.now, ← c.front.ensures, sym c.is_same.ensures ∙ c.if-not-is_same.true)
+pub args-2-preserved-in_default : goal.args-2-preserved-in_default
+args-2-preserved-in_default c = turn-pair (goal.at.args-2-preserved-in_default c).In-Ok-Some-Pair ∙ rw (same_append c.in-Ok-Some-Pair.key.now c.args.prefix.now c.args.name.now, c.in_default.ensures.cases)
 
 pub args-2-smaller-then-tail-name : goal.args-2-smaller-then-tail-name
-args-2-smaller-then-tail-name c = nearer-pair (goal.at.args-2-smaller-then-tail-name c).In-Pair
+args-2-smaller-then-tail-name c = nearer-pair (goal.at.args-2-smaller-then-tail-name c).In-Ok-Some-Pair
 
 pub args-2-preserved-then-tail-name : goal.args-2-preserved-then-tail-name
-args-2-preserved-then-tail-name c = turn-pair (goal.at.args-2-preserved-then-tail-name c).After-part-key ∙ rw (tail-decides (goal.at.args-2-preserved-then-tail-name c).After-after-tail, same_length c.after-tail.result.now c.args.name.now c.if-tail-name.true)
+args-2-preserved-then-tail-name c =
+    turn-pair (goal.at.args-2-preserved-then-tail-name c).In-Ok-Some-Pair ∙ rw (tail-decides (goal.at.args-2-preserved-then-tail-name c).In-Some, same_length c.in-Some.tail.now c.args.name.now c.if-tail-name.true)
 
 pub args-2-smaller : goal.args-2-smaller
-args-2-smaller c = nearer-pair (goal.at.args-2-smaller c).In-Pair
+args-2-smaller c = nearer-pair (goal.at.args-2-smaller c).In-Ok-Some-Pair
 
 pub args-2-preserved : goal.args-2-preserved
-args-2-preserved c = turn-pair (goal.at.args-2-preserved c).After-part-key ∙ rw (tail-decides (goal.at.args-2-preserved c).After-after-tail, c.loop-j.invariant.1.1, step c.after-tail.result.now c.loop-j.j (omega arith), step c.args.name.now c.loop-j.j c.loop-j-test.true, ne_eqb _ _ c.if-tail-j.true)
+args-2-preserved c =
+    turn-pair (goal.at.args-2-preserved c).In-Ok-Some-Pair
+    ∙ rw (tail-decides (goal.at.args-2-preserved c).In-Some, c.loop-place.invariant.1, step c.in-Some.tail.now c.loop-place.place (omega arith), step c.args.name.now c.loop-place.place c.loop-place-test.true, ne_eqb _ _ c.if-tail-place.true)
 
-pub loop-j-preserved : goal.loop-j-preserved
-loop-j-preserved c = (search rules, (search rules, c.loop-j.invariant.1.1 ∙ rw (step c.after-tail.result.now c.loop-j.j (omega arith), step c.args.name.now c.loop-j.j c.loop-j-test.true, eq-eqb _ _ c.if-tail-j.false)))
+pub loop-place-preserved : goal.loop-place-preserved
+loop-place-preserved c =
+    (c.if-tail-name.false, c.loop-place.invariant.1 ∙ rw (step c.in-Some.tail.now c.loop-place.place (omega arith), step c.args.name.now c.loop-place.place c.loop-place-test.true, eq-eqb _ _ c.if-tail-place.false))
 
-pub returns-in-Pair : goal.returns-in-Pair
-returns-in-Pair c = sym (turn-pair (goal.at.returns-in-Pair c).After-part-key ∙ rw (tail-decides (goal.at.returns-in-Pair c).After-after-tail, c.loop-j.invariant.1.1, end c.after-tail.result.now c.loop-j.j (omega arith), end c.args.name.now c.loop-j.j c.loop-j-test.false))
+pub returns-in-Ok-Some-Pair : goal.returns-in-Ok-Some-Pair
+returns-in-Ok-Some-Pair c =
+    sym
+    (turn-pair (goal.at.returns-in-Ok-Some-Pair c).In-Ok-Some-Pair
+    ∙ rw (tail-decides (goal.at.returns-in-Ok-Some-Pair c).In-Some, c.loop-place.invariant.1, end c.in-Some.tail.now c.loop-place.place (omega arith), end c.args.name.now c.loop-place.place c.loop-place-test.false))
+
+pub returns-in-Err : goal.returns-in-Err
+returns-in-Err c = sym (turn (goal.at.returns-in-Err c).After-next ∙ rw c.in-Err.is)
+
+pub returns-in-Ok-None : goal.returns-in-Ok-None
+returns-in-Ok-None c = let h = rw c.in-Ok-None.is at c.in-Ok-None.field-0-is in sym (turn (goal.at.returns-in-Ok-None c).After-next ∙ rw (c.in-Ok-None.is, h))

@@ -1,12 +1,12 @@
 -- The zero byte that closes the value decides.
-use borrow.Author.Tests.{lt-ltb, le-ltb}
+use Rattle.values.specs.Laws.Scan.{split_none, split_some}
 use Rattle.args.specs.Places.{valued_of}
 use Rattle.args.proofs.cursor.Cursor.valued.Goals as goal
 
-pub returns-then-more-l : goal.returns-then-more-l
+pub returns-in-None : goal.returns-in-None
 unfolding valued_of
-returns-then-more-l c = rw (← c.after-more.ensures, ← c.up_to-l.ensures, le-ltb _ _ c.if-more-l.true)
+returns-in-None c = rw (← c.after.ensures, split_none 0 c.after.result.now c.in-None.ensures)
 
-pub returns : goal.returns
+pub returns-in-Some : goal.returns-in-Some
 unfolding valued_of
-returns c = rw (← c.after-more.ensures, ← c.up_to-l.ensures, lt-ltb _ _ c.if-more-l.false)
+returns-in-Some c = let h = split_some 0 c.after.result.now _ c.in-Some.ensures in rw (← c.after.ensures, h.0, h.1)

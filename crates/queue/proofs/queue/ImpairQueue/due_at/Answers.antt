@@ -1,12 +1,9 @@
--- Two cases.
-use borrow.Author.Tests.{le-leb, lt-leb}
+-- The literal 0.0 is the float of the whole number 0.
+use borrow.Author.Tests.{lt-leb}
+use lib.Ieee.{of_bits, of_fields, of_int}
 use Rattle.queue.specs.Calls.{due_at}
 use Rattle.queue.proofs.queue.ImpairQueue.due_at.Goals as goal
 
-pub returns-then-self-root : goal.returns-then-self-root
-unfolding due_at
-returns-then-self-root c = rw (le-leb _ _ c.if-self-root.true)
-
 pub returns : goal.returns
-unfolding due_at
-returns c = rw (lt-leb _ _ c.if-self-root.false, c.get_f64.ensures)
+unfolding due_at of_bits of_fields of_int
+returns c = rw (lt-leb _ _ c.if-self-root.false, c.get.ensures)

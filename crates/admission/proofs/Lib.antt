@@ -1,2 +1,0 @@
-pub mod TallySteps
-pub mod FollowSteps

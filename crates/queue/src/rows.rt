@@ -1,0 +1,67 @@
+// What a slot has beside its key.
+ghost use Rattle.std.specs.Prelude.{◌≡◌, ◌<◌, ◌^◌, length};
+ghost use Rattle.queue.specs.Tables.{written_of};
+ghost use Rattle.queue.specs.Lent.{rows_in, rows_seen, SameRows};
+ghost use Rattle.queue.specs.Refusals.{slot_width};
+
+use crate::store::SLOT_WIDTH;
+
+// The packet of which copies enter.
+#[derive(Clone, Copy)]
+pub struct Packet {
+    pub due_ms: f64,
+    pub arrival_ms: f64,
+    pub route: u64,
+    pub copy_id: u32,
+    pub duplicated: bool,
+}
+
+// The lent tables and the store, to be read.
+#[derive(Clone, Copy)]
+pub struct Rows<'a> {
+    pub arrivals: &'a [f64],
+    pub routes: &'a [u64],
+    pub copy_ids: &'a [u32],
+    pub lengths: &'a [u32],
+    pub store: &'a [u8],
+}
+
+// The lent tables and the store, to be written.
+#[derive(Drop)]
+pub struct RowsMut<'a> {
+    pub arrivals: &'a mut [f64],
+    pub routes: &'a mut [u64],
+    pub copy_ids: &'a mut [u32],
+    pub lengths: &'a mut [u32],
+    pub store: &'a mut [u8],
+}
+
+impl RowsMut<'_> {
+    // The same tables, to be read.
+    pub fn shared(&self) -> Rows<'_>
+        ensures { rows_seen result ≡ rows_in self.now }
+    {
+        Rows {
+            arrivals: self.arrivals,
+            routes: self.routes,
+            copy_ids: self.copy_ids,
+            lengths: self.lengths,
+            store: self.store,
+        }
+    }
+
+    // The copy's arrival, route, copy id, length and bytes are written into its slot.
+    #[tactic(auto, unfolding(crate::specs::Tables::written_of))]
+    pub(crate) fn write(&mut self, slot: u32, packet: Packet, bytes: &[u8])
+        requires { length bytes.now < 2 ^ 32 }
+        ensures written { rows_in self.new ≡ written_of slot_width (rows_in self.old) slot packet.arrival_ms packet.route packet.copy_id bytes.now }
+        ensures same { SameRows self.old self.new }
+    {
+        let at = slot as usize;
+        tables::set(self.arrivals, at, packet.arrival_ms);
+        tables::set(self.routes, at, packet.route);
+        tables::set(self.copy_ids, at, packet.copy_id);
+        tables::set(self.lengths, at, bytes.len() as u32);
+        tables::fill(self.store, SLOT_WIDTH, slot, bytes);
+    }
+}

@@ -1,9 +1,0 @@
--- The loop ends with the bytes.
-use Rattle.std.proofs.Common.{◌-◌, ◌≤◌, length}
-use Rattle.script.proofs.payload.sum.Given as goal
-
-abbrev pub invariant-loop-i : goal.invariant-loop-i
-invariant-loop-i l = l.i ≤ length l.bytes
-
-abbrev pub decreases-loop-i : goal.decreases-loop-i
-decreases-loop-i l = length l.bytes - l.i

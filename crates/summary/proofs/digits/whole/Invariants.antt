@@ -1,9 +1,0 @@
--- The loop ends after the first digit.
-use Rattle.std.proofs.Common.{◌-◌, ◌≤◌}
-use Rattle.summary.proofs.digits.whole.Given as goal
-
-abbrev pub invariant-loop-i : goal.invariant-loop-i
-invariant-loop-i l = l.i ≤ 309
-
-abbrev pub decreases-loop-i : goal.decreases-loop-i
-decreases-loop-i l = 309 - l.i

@@ -1,6 +1,0 @@
-use lib.ListN.{get_or-eq_default}
-use mathlib.Core.Path.{sym}
-use Rattle.tables.proofs.get.get_u32.Goals as goal
-
-pub returns-else-i-table : goal.returns-else-i-table
-returns-else-i-table c = sym (get_or-eq_default c.args.table.now 0 c.if-i-table.false)
