@@ -9,7 +9,7 @@ use crate::stats::DirectionStats;
 use crate::{counters, joining, stats};
 use numbers::Refusal;
 
-// What was sent, and how long it had waited.
+// What was sent, and how long it had waited. The source's statistics have these counters too, so `DirectionStats` has them beside this record.
 #[derive(Clone, Copy)]
 pub struct SendAccountant {
     pub sent_pkts: u64,
@@ -20,6 +20,7 @@ pub struct SendAccountant {
     pub latency: LatencyStats,
 }
 
+// By hand, since a derived `default` has no clause.
 #[tactic(auto, unfolding(crate::specs::Accountant::no_sends))]
 impl Default for SendAccountant {
     ghost is_default = { λ a. a ≡ no_sends };
@@ -38,7 +39,8 @@ impl Default for SendAccountant {
 }
 
 impl SendAccountant {
-    // Counts a packet of len bytes that was sent with this latency, or refuses by 22 or 25.
+    // Counts a packet of len bytes that was sent with this latency, or refuses by 22 or 25. Document 01 gives calls on a record this form: it goes in by value
+    // and comes back beside the answer.
     pub fn on_send(mut self, len: usize, latency_ms: f64) -> (Self, Result<(), Refusal>)
         ensures { result ≡ on_send_of self len latency_ms }
     {
@@ -65,7 +67,7 @@ impl SendAccountant {
         (merged(&self, st), Ok(()))
     }
 
-    // Whether refusal 25 lets the counters through: their bits together are below 2^60 where each of them is.
+    // Whether refusal 25 lets the counters through: their bits together are below 2^60 where each of them is. Written out, as those of `DirectionStats`.
     pub fn in_range(&self) -> bool
         ensures { result ≡ are_counters (accountant_counters self.now) }
     {

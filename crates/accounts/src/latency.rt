@@ -15,6 +15,7 @@ pub struct LatencyStats {
     pub hist: [u64; N_BUCKETS],
 }
 
+// By hand, since a derived `default` has no clause.
 impl Default for LatencyStats {
     ghost is_default = { λ l. l ≡ no_latencies };
 

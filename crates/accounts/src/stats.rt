@@ -8,7 +8,7 @@ use crate::counters;
 use crate::latency::LatencyStats;
 use numbers::Refusal;
 
-// What happened in one direction.
+// What happened in one direction. The source has the latencies here field by field, and not as a record of their own.
 #[derive(Clone, Copy)]
 pub struct DirectionStats {
     pub received_pkts: u64,
@@ -32,6 +32,7 @@ pub struct DirectionStats {
     pub hist: [u64; N_BUCKETS],
 }
 
+// By hand, since a derived `default` has no clause.
 impl Default for DirectionStats {
     ghost is_default = { λ s. s ≡ no_stats };
 
@@ -62,7 +63,7 @@ impl Default for DirectionStats {
 }
 
 impl DirectionStats {
-    // Counts the latency of a delivered packet, or refuses by 25.
+    // Counts the latency of a delivered packet, or refuses by 25. The record comes back beside the answer, as document 01 has it.
     pub fn record_delivered(self, latency_ms: f64) -> (Self, Result<(), Refusal>)
         ensures { result ≡ record_delivered_of self latency_ms }
     {
@@ -90,7 +91,8 @@ impl DirectionStats {
         )
     }
 
-    // Whether refusal 25 lets the counters through: their bits together are below 2^60 where each of them is.
+    // Whether refusal 25 lets the counters through: their bits together are below 2^60 where each of them is. Written out: an
+    // array to be folded would list the same names.
     pub fn in_range(&self) -> bool
         ensures { result ≡ are_counters (stats_counters self.now) }
     {

@@ -45,13 +45,8 @@ pub(crate) fn tallied(
     let asked = asked(duplicated);
     match pushed {
         Ok(entered) => Ok(with_copies(entered.copies as u64, asked - entered.copies as u64)),
-        Err(refusal) => {
-            if refusal == Refusal::Full {
-                Ok(with_copies(0, asked))
-            } else {
-                Err(Refusal::Keeping)
-            }
-        }
+        Err(Refusal::Full) => Ok(with_copies(0, asked)),
+        Err(_) => Err(Refusal::Keeping),
     }
 }
 
@@ -60,13 +55,11 @@ pub(crate) fn tallied(
 pub(crate) fn torn(drained: Result<usize, Refusal>) -> Result<Admitted, Refusal>
     ensures { result ≡ torn_by drained }
 {
-    match drained {
-        Ok(copies) => Ok(Admitted {
-            entered: 0,
-            overflowed: 0,
-            torn: copies as u64,
-            resets: 1,
-        }),
-        Err(_) => Err(Refusal::Keeping),
-    }
+    let copies = drained.map_err(|_| Refusal::Keeping)?;
+    Ok(Admitted {
+        entered: 0,
+        overflowed: 0,
+        torn: copies as u64,
+        resets: 1,
+    })
 }

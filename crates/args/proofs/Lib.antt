@@ -1,4 +1,3 @@
-pub mod Turn
-pub mod Steps
-pub mod Hits
-pub mod Values
+pub mod Turns
+pub mod ReadsGathered
+pub mod LastYielded

@@ -1,7 +1,6 @@
--- Read first the definitions, in this order: Arguments (the arguments of a text and the values of a key, as document 01 has them under "Option text"), Items
--- (what a cursor reads as bytes), Places (where in the text a scan finds them). Laws and proofs/ hold what is proved about them; proofs/Values.antt says what a
--- layer above needs.
+-- Read first the definitions, in this order: Arguments (the arguments of a text and the values of a key, as document 01 has them under "Option text"), Reads
+-- (the arguments one by one), Left (what an iterator over them has left). Laws and proofs/ hold what is proved about them.
 pub mod Arguments
-pub mod Items
-pub mod Places
+pub mod Reads
+pub mod Left
 pub mod Laws

@@ -1,29 +1,68 @@
-// What is done for a line.
-use crate::requests::Request;
-use crate::state::State;
-use crate::{arrive_line, engine_line, options_line, stats_line, timed_lines};
-use script::answers;
+// The calls of a script.
+use engine_words::Direction;
+use script::words::Words;
+use script::{hex, lines, words};
+use std::alloc::{AllocError, Global};
 
-// Says the answer to a request; `text` begins with the last option text.
-pub fn answer(out: &mut [u8], s: State, request: Request, text: &[u8]) -> State {
-    match request {
-        Request::Options(length) => options_line::answer(out, s, text, length),
-        Request::Engine(c2s, seed) => engine_line::answer(out, s, c2s, seed, text),
-        Request::Decide(now, len) => arrive_line::answer(out, s, now, len),
-        _ => asked(out, s, request),
+// What a line asks for.
+#[derive(Drop)]
+pub enum Call {
+    Options(Vec<u8>),
+    Create { direction: Direction, seed: u64 },
+    Decide { now_ms: f64, len: usize },
+    Rebind { now_ms: f64 },
+    Rst { now_ms: f64 },
+    Hold { now_ms: f64 },
+    Overflow,
+    Stats,
+}
+
+impl Call {
+    // The call of a line, where it is one.
+    pub fn read(alloc: Global, line: &[u8]) -> Result<Option<Self>, AllocError> {
+        match words::split_word(line) {
+            (b"options", Some(digits)) => Ok(hex::decode(alloc, digits)?.map(Call::Options)),
+            _ if line.len() > lines::LONGEST => Ok(None),
+            (word, Some(rest)) => Ok(with_numbers(word, rest)),
+            (b"o", None) => Ok(Some(Call::Overflow)),
+            (b"s", None) => Ok(Some(Call::Stats)),
+            _ => Ok(None),
+        }
     }
 }
 
-// Requests for which there is no text and no packet.
-fn asked(out: &mut [u8], mut s: State, request: Request) -> State {
-    match request {
-        Request::Timed(asked, now) => timed_lines::answer(out, s, asked, now),
-        Request::Overflow => stats_line::overflow(out, s),
-        Request::Stats => stats_line::answer(out, s),
-        Request::Bad => {
-            s.at = answers::bad_line(out, s.at);
-            s
-        }
-        _ => s,
-    }
+// The call that a first word names, with the numbers behind it.
+fn with_numbers(word: &[u8], rest: &[u8]) -> Option<Call> {
+    let mut words = Words::new(rest);
+    let call = match word {
+        b"engine" => creation(&mut words)?,
+        b"d" => arrival(&mut words)?,
+        b"b" => Call::Rebind {
+            now_ms: words.float()?,
+        },
+        b"k" => Call::Rst {
+            now_ms: words.float()?,
+        },
+        b"h" => Call::Hold {
+            now_ms: words.float()?,
+        },
+        _ => return None,
+    };
+    if words.is_empty() { Some(call) } else { None }
+}
+
+// A direction and a seed.
+fn creation(words: &mut Words<'_>) -> Option<Call> {
+    Some(Call::Create {
+        direction: Direction::of(words.next()?)?,
+        seed: words.whole()?,
+    })
+}
+
+// An instant and a length.
+fn arrival(words: &mut Words<'_>) -> Option<Call> {
+    Some(Call::Decide {
+        now_ms: words.float()?,
+        len: usize::try_from(words.whole()?).ok()?,
+    })
 }

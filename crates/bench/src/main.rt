@@ -2,23 +2,19 @@
 #![tactic(auto)]
 
 mod parses;
-mod print;
 mod sends;
 
-// The number of standard input.
-const STDIN_FILENO: i32 = 0;
+use std::io;
+use std::io::{BufWriter, Write};
 
-fn main() {
-    let mut space = io::large_buffer();
-    run(&mut space);
-}
-
-// Runs the loop that the input asks for; `space` is lent for the input.
-fn run(space: &mut [u8]) {
-    let n = io::read_full(STDIN_FILENO, space);
-    if n == 0 {
-        sends::run();
+fn main(rt: HostRuntime) -> io::Result<()> {
+    let alloc = rt.alloc();
+    let mut out = BufWriter::new(alloc, io::writer(&rt))?;
+    let text = bench_sums::read_text(alloc, rt.reader())?;
+    if text.is_empty() {
+        sends::run(&mut out)?;
     } else {
-        parses::run(&space[..n]);
+        parses::run(&text, &mut out)?;
     }
+    out.flush()
 }

@@ -1,24 +1,25 @@
 // Ten million packets arrive at an engine of an option text's c2s settings, and what was decided is summed up, so that
 // the work cannot be left out.
 use accounts::DirectionStats;
+use bench_sums::bits;
 use engine::ArrivalEngine;
 use numbers::Refusal;
+use std::io;
+use std::io::Write;
 use steps::Decision;
 
-pub fn run(text: &[u8]) {
+pub fn run<W: Write>(text: &[u8], out: &mut W) -> io::Result<()> {
     let (config, _) = options::parse_config(text);
     let (mut engine, _) = ArrivalEngine::new(config.c2s, 1);
     let mut now_ms = 0.0;
     let mut sum: u64 = 0;
-    for i in 0..10000000u64 {
-        let (after, answer) = engine.decide(now_ms, (i % 1500) as usize);
-        engine = after;
-        sum = std::num::wrapping_add_u64(sum, weight(answer));
-        now_ms = now_ms + 0.001;
+    for i in 0..10000000usize {
+        let answer = engine.decide_judged_in_place(now_ms, i % 1500);
+        sum = sum.wrapping_add(weight(answer));
+        now_ms += 0.001;
     }
-    let stats = engine.stats;
-    print_counts(stats);
-    count(sum);
+    print_counts(&engine.stats, out)?;
+    writeln!(out, "{sum}")
 }
 
 // The bits of the due; a small number for each other answer.
@@ -41,22 +42,9 @@ fn decision_weight(decision: Decision) -> u64 {
     }
 }
 
-fn bits(x: f64) -> u64 {
-    if x != x { 0 } else { f64::to_bits(x) }
-}
-
-fn print_counts(s: DirectionStats) {
-    count(s.received_pkts);
-    count(s.received_bytes);
-    count(s.dropped_random);
-    count(s.dropped_blackout);
-    count(s.duplicates);
-    count(s.reorder_hits);
-    count(s.rate_deferred);
-}
-
-// The number on a line of its own.
-fn count(n: u64) {
-    output::decimal(n);
-    output::end();
+fn print_counts<W: Write>(s: &DirectionStats, out: &mut W) -> io::Result<()> {
+    writeln!(out, "{}\n{}", s.received_pkts, s.received_bytes)?;
+    writeln!(out, "{}\n{}", s.dropped_random, s.dropped_blackout)?;
+    writeln!(out, "{}\n{}", s.duplicates, s.reorder_hits)?;
+    writeln!(out, "{}", s.rate_deferred)
 }

@@ -3,16 +3,13 @@
 
 mod decides;
 
-// The number of standard input.
-const STDIN_FILENO: i32 = 0;
+use std::io;
+use std::io::{BufWriter, Write};
 
-fn main() {
-    let mut space = io::large_buffer();
-    run(&mut space);
-}
-
-// `space` is lent for the input.
-fn run(space: &mut [u8]) {
-    let n = io::read_full(STDIN_FILENO, space);
-    decides::run(&space[..n]);
+fn main(rt: HostRuntime) -> io::Result<()> {
+    let alloc = rt.alloc();
+    let mut out = BufWriter::new(alloc, io::writer(&rt))?;
+    let text = bench_sums::read_text(alloc, rt.reader())?;
+    decides::run(&text, &mut out)?;
+    out.flush()
 }

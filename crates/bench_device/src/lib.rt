@@ -10,6 +10,7 @@ use queue::{Rows, RowsMut, Tree, TreeMut};
 // The salt of the direction.
 const SALT: u64 = 1;
 
+// The driver in Rust lends each table by itself.
 // A device of the option text's c2s settings, `count` arrivals, and after each one the releases of all that is due. Returned is a sum of what entered, what
 // left and what is reported at the end.
 #[unsafe(no_mangle)]
@@ -37,9 +38,9 @@ pub extern "C" fn bench_device(
         lengths,
         store,
     };
-    let device = created(text, cap, tree.shared(), free, rows.shared());
-    let ran = rounds::run(device, &mut tree, free, &mut rows, source, sent, count);
-    sums::of_ran(ran)
+    let mut device = created(text, cap, tree.shared(), free, rows.shared());
+    let sum = rounds::run(&mut device, &mut tree, free, &mut rows, source, sent, count);
+    sums::with_report(sum, device.report())
 }
 
 fn created(text: &[u8], cap: usize, tree: Tree<'_>, free: &[u32], rows: Rows<'_>) -> Device {

@@ -1,51 +1,59 @@
-// The loop of arrivals and releases. The device stays in one local, and each call stands once in the program, so that both can be inlined.
+// The loop of arrivals and releases. Each call stands once in the program, so that both can be inlined.
 use crate::sums;
 use device::Device;
-use queue::{RowsMut, TreeMut};
+use queue::{Rows, RowsMut, TreeMut};
 
 // The instant goes on by so much from one arrival to the next, in milliseconds.
 const STEP_MS: f64 = 0.01;
 
-// The packets of the source arrive in turns: how many they are, and the bytes of each.
+// So many packets of the source arrive in turns.
 const SOURCES: u64 = 16;
 
+// The bytes from one packet of the source to the next.
 const WIDTH: u32 = 200;
 
+// The bytes of a packet.
 const LENGTH: usize = 200;
 
-#[derive(Clone, Copy)]
-pub(crate) struct Ran {
-    pub device: Device,
-    pub sum: u64,
-}
-
-// A packet arrives `count` times, and each time all that is due leaves.
+// What is lent goes beside each other, since a round takes 140 instructions more (11 in 100) where it goes as one struct.
+// A packet arrives `count` times, and each time all that is due leaves. Returned is the sum of what entered and what left.
 pub(crate) fn run(
-    mut device: Device,
+    device: &mut Device,
     tree: &mut TreeMut<'_>,
     free: &mut [u32],
     rows: &mut RowsMut<'_>,
     source: &[u8],
     sent: &mut [u8],
     count: u64,
-) -> Ran {
+) -> u64 {
     let mut now_ms = 0.0;
     let mut sum: u64 = 0;
-    for turn in 0..count {
-        let left = count - turn;
+    for left in (1..=count).rev() {
         let bytes = tables::part(source, WIDTH, (left % SOURCES) as u32, LENGTH);
-        let (after, arrived) = device.arrive(tree, free, rows, now_ms, bytes, left);
-        device = after;
+        let arrived = device.arrive_in_place(tree, free, rows, now_ms, bytes, left);
         sum = sums::with_arrival(sum, arrived);
-        for _ in 0..device.queue.held {
-            let (after, released) = device.release(tree, free, rows.shared(), now_ms);
-            device = after;
-            sum = sums::send_answer(sum, rows.store, released, sent);
-            if !sums::has_left(released) {
-                break;
-            }
-        }
+        sum = release(device, tree, free, rows.shared(), sent, now_ms, sum);
         now_ms += STEP_MS;
     }
-    Ran { device, sum }
+    sum
+}
+
+// All that is due leaves. Returned is the sum with what left.
+fn release(
+    device: &mut Device,
+    tree: &mut TreeMut<'_>,
+    free: &mut [u32],
+    rows: Rows<'_>,
+    sent: &mut [u8],
+    now_ms: f64,
+    mut sum: u64,
+) -> u64 {
+    for _ in 0..device.queue.held {
+        let released = device.release_in_place(tree, free, rows, now_ms);
+        sum = sums::with_release(sum, rows.store, released, sent);
+        if !sums::has_left(released) {
+            break;
+        }
+    }
+    sum
 }

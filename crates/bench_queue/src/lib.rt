@@ -1,11 +1,14 @@
 // The benchmark's loop of the queue, over memory that a driver in Rust lends.
 #![tactic(auto)]
 
+mod lent;
 mod turns;
 
-use queue::{ImpairQueue, Packet, RowsMut, TreeMut};
+use lent::Lent;
+use queue::{ImpairQueue, RowsMut, TreeMut};
 use turns::Turns;
 
+// The driver in Rust lends each table by itself.
 // A copy enters `count` times, and whenever more than `held` are held then, one leaves. Returned is a sum of what left.
 #[unsafe(no_mangle)]
 pub extern "C" fn bench_queue(
@@ -25,8 +28,8 @@ pub extern "C" fn bench_queue(
     count: u64,
     seed: u64,
 ) -> u64 {
-    let mut tree = TreeMut { win, dues, seqs };
-    let mut rows = RowsMut {
+    let tree = TreeMut { win, dues, seqs };
+    let rows = RowsMut {
         arrivals,
         routes,
         copy_ids,
@@ -34,6 +37,13 @@ pub extern "C" fn bench_queue(
         store,
     };
     let (queue, _) = ImpairQueue::create(cap, tree.shared(), free, rows.shared());
+    let mut lent = Lent {
+        tree,
+        free,
+        rows,
+        source,
+        sent,
+    };
     let mut turns = Turns {
         queue,
         now_ms: 0.0,
@@ -41,19 +51,8 @@ pub extern "C" fn bench_queue(
         sum: 0,
     };
     for _ in 0..count {
-        let drawn = turns.drawn();
-        let queue = drawn.queue;
-        let packet = Packet {
-            due_ms: drawn.due_ms(),
-            arrival_ms: drawn.now_ms,
-            route: drawn.draw,
-            copy_id: 0,
-            duplicated: false,
-        };
-        let (after, _) = queue.push(&mut tree, free, &mut rows, packet, drawn.bytes(source));
-        turns = drawn
-            .with(after)
-            .leave(&mut tree, free, rows.shared(), sent, held);
+        turns.enter(&mut lent);
+        turns.leave(&mut lent, held);
     }
     turns.sum
 }

@@ -1,10 +1,9 @@
-// What a copy that enters is made of; one leaves, and what left is summed up, so that the work cannot be left out.
+// A copy enters and one leaves, and what left is summed up, so that the work cannot be left out.
+use crate::lent::Lent;
 use numbers::Refusal;
-use queue::{ImpairQueue, Queued, Rows, TreeMut};
+use queue::{ImpairQueue, Packet, Queued};
 
-// The bytes of a slot, and of a copy.
-const SLOT_WIDTH: u32 = 2048;
-
+// The bytes of a copy.
 const LENGTH: usize = 200;
 
 // The source has so many slots of bytes that enter.
@@ -13,7 +12,8 @@ const SOURCES: u64 = 16;
 // A due is up to this many milliseconds ahead.
 const SPREAD_MS: f64 = 1000.0;
 
-#[derive(Clone, Copy)]
+// The queue, the instant, the draw of which a copy is made, and the sum of what left.
+#[derive(Drop)]
 pub(crate) struct Turns {
     pub queue: ImpairQueue,
     pub now_ms: f64,
@@ -35,34 +35,14 @@ fn unit(draw: u64) -> f64 {
     numbers::float_of(draw >> 11) * (1.0 / 9007199254740992.0)
 }
 
-fn wide(b: u8) -> u64 {
-    b as u64
-}
-
-fn first(bytes: &[u8]) -> u64 {
-    if 0 < bytes.len() { wide(bytes[0]) } else { 256 }
-}
-
-// The bytes of a copy that left go to `sent`, as a host hands them on. Returned is what the copy adds to the sum: its first byte, seq, route and copy id, and
-// whether it waited.
+// The bytes of a copy that left go to `sent`. Returned is what the copy adds to the sum, with whether it waited.
 fn send(store: &[u8], copy: Queued, sent: &mut [u8]) -> u64 {
-    tables::fill(
-        sent,
-        SLOT_WIDTH,
-        0,
-        queue::payload(store, copy.slot, copy.length),
-    );
-    let tag = std::num::wrapping_add_u64(copy.seq, copy.route);
-    let marked = std::num::wrapping_add_u64(tag, first(sent));
     let waited = if copy.arrival_ms < copy.due_ms {
         1000
     } else {
         0
     };
-    std::num::wrapping_add_u64(
-        std::num::wrapping_add_u64(marked, copy.copy_id as u64),
-        waited,
-    )
+    bench_sums::send(store, copy, sent).wrapping_add(waited)
 }
 
 // The same for an answer, and 0 where none left.
@@ -73,62 +53,38 @@ fn send_answer(store: &[u8], answer: Result<Option<Queued>, Refusal>, sent: &mut
     }
 }
 
-fn due_or(answer: Result<Option<f64>, Refusal>, now_ms: f64) -> f64 {
-    match answer {
-        Ok(Some(due_ms)) => due_ms,
-        _ => now_ms,
-    }
-}
-
-// The sum turned by five bits, so that the order of what leaves counts.
-fn add(sum: u64, weight: u64) -> u64 {
-    ((sum << 5) | (sum >> 59)) ^ weight
-}
-
 impl Turns {
-    // With the next draw, of which a copy is made.
-    pub(crate) fn drawn(mut self) -> Turns {
+    // A copy enters, made of the next draw and due within the spread.
+    pub(crate) fn enter(&mut self, lent: &mut Lent<'_, '_, '_>) {
         self.draw = next(self.draw);
-        self
-    }
-
-    // With the queue that the copy entered.
-    pub(crate) fn with(mut self, queue: ImpairQueue) -> Turns {
+        let packet = Packet {
+            due_ms: self.now_ms + unit(self.draw) * SPREAD_MS,
+            arrival_ms: self.now_ms,
+            route: self.draw,
+            copy_id: 0,
+            duplicated: false,
+        };
+        let bytes = queue::payload(lent.source, (self.draw % SOURCES) as u32, LENGTH);
+        let free = &mut *lent.free;
+        let (queue, _) = self
+            .queue
+            .push(&mut lent.tree, free, &mut lent.rows, packet, bytes);
         self.queue = queue;
-        self
-    }
-
-    // The copy is due within the spread.
-    pub(crate) fn due_ms(self) -> f64 {
-        self.now_ms + unit(self.draw) * SPREAD_MS
-    }
-
-    // Its bytes.
-    pub(crate) fn bytes(self, source: &[u8]) -> &[u8] {
-        queue::payload(source, (self.draw % SOURCES) as u32, LENGTH)
     }
 
     // Where more than `held` are held, it is now the least due, and that copy leaves.
-    pub(crate) fn leave(
-        self,
-        tree: &mut TreeMut<'_>,
-        free: &mut [u32],
-        rows: Rows<'_>,
-        sent: &mut [u8],
-        held: usize,
-    ) -> Turns {
-        let queue = self.queue;
-        if queue.len() <= held {
-            return self;
+    pub(crate) fn leave(&mut self, lent: &mut Lent<'_, '_, '_>, held: usize) {
+        if self.queue.len() <= held {
+            return;
         }
-        let seen = tree.shared();
-        let now_ms = due_or(queue.next_due(seen.win, seen.dues), self.now_ms);
-        let (after, released) = queue.release(tree, free, rows, now_ms);
-        Turns {
-            queue: after,
-            now_ms,
-            draw: self.draw,
-            sum: add(self.sum, send_answer(rows.store, released, sent)),
-        }
+        let seen = lent.tree.shared();
+        let due = self.queue.next_due(seen.win, seen.dues);
+        self.now_ms = due.ok().flatten().unwrap_or(self.now_ms);
+        let rows = lent.rows.shared();
+        let free = &mut *lent.free;
+        let (queue, released) = self.queue.release(&mut lent.tree, free, rows, self.now_ms);
+        self.queue = queue;
+        let sent = &mut *lent.sent;
+        self.sum = bench_sums::add(self.sum, send_answer(rows.store, released, sent));
     }
 }

@@ -53,9 +53,10 @@ impl Device {
         self.torn += admitted.torn;
     }
 
-    // An arrival in place, so that the settings are not copied.
+    // A packet arrives: it is dropped, its copies enter or overflow, or all held copies are torn; or a refusal by 23, 21, 22, 25 or 26. In place, so that the
+    // settings are not copied.
     #[tactic(auto, unfolding(crate::specs::Arrive::arrive_of))]
-    fn arrive_in_place(
+    pub fn arrive_in_place(
         &mut self,
         tree: &mut TreeMut<'_>,
         free: &[u32],
@@ -83,7 +84,7 @@ impl Device {
         })
     }
 
-    // A packet arrives: it is dropped, its copies enter or overflow, or all held copies are torn; or a refusal by 23, 21, 22, 25 or 26.
+    // The same on a device that goes by value.
     pub fn arrive(
         mut self,
         tree: &mut TreeMut<'_>,

@@ -1,4 +1,5 @@
-// The state of a device, which goes by value beside the lent tables.
+// The state of a device, which goes by value beside the lent tables: document 01 gives its calls this form. Each of them stands over one in place, which copies
+// no settings.
 use accounts::SendAccountant;
 use engine::ArrivalEngine;
 use queue::ImpairQueue;

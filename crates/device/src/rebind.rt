@@ -6,21 +6,18 @@ use crate::device::Device;
 use numbers::Refusal;
 
 impl Device {
-    // A rebind in place. Settings that the engine refuses were altered.
+    // Whether the outbound socket is to be changed now, or a refusal by 21, 25 or 26: settings that the engine refuses were altered. In place, so that the
+    // settings are not copied.
     #[tactic(auto, unfolding(crate::specs::Others::rebind_of, crate::specs::Others::rebound_by))]
-    fn rebind_in_place(&mut self, now_ms: f64) -> Result<bool, Refusal>
+    pub fn rebind_in_place(&mut self, now_ms: f64) -> Result<bool, Refusal>
         ensures { (self.new, result) ≡ rebind_of self.old now_ms }
     {
         self.judged(true, numbers::is_instant(now_ms), true)?;
-        let (after, rebound) = self.engine.should_rebind_now(now_ms);
-        self.engine = after;
-        match rebound {
-            Ok(yes) => Ok(yes),
-            Err(_) => Err(Refusal::Keeping),
-        }
+        let rebound = self.engine.should_rebind_now_in_place(now_ms);
+        rebound.map_err(|_| Refusal::Keeping)
     }
 
-    // Whether the outbound socket is to be changed now, or a refusal by 21, 25 or 26.
+    // The same on a device that goes by value.
     pub fn rebind(mut self, now_ms: f64) -> (Device, Result<bool, Refusal>)
         ensures { result ≡ rebind_of self now_ms }
     {

@@ -26,10 +26,7 @@ impl Device {
     {
         let (accounts, sent) = self.accounts.on_send(copy.length, now_ms - copy.arrival_ms);
         self.accounts = accounts;
-        match sent {
-            Ok(()) => Ok(Some(copy)),
-            Err(_) => Err(Refusal::Keeping),
-        }
+        sent.map(|()| Some(copy)).map_err(|_| Refusal::Keeping)
     }
 
     // What comes once the queue has answered; a queue that refuses was altered.
@@ -48,9 +45,10 @@ impl Device {
         }
     }
 
-    // A release in place, so that the settings are not copied.
+    // The least copy with a due of at most `now_ms` leaves and is accounted; none due, or a refusal by 23, 21, 25 or 26. In place, so that the settings are not
+    // copied.
     #[tactic(auto, unfolding(crate::specs::Release::release_of, queue::specs::Refusals::memory_of))]
-    fn release_in_place(
+    pub fn release_in_place(
         &mut self,
         tree: &mut TreeMut<'_>,
         free: &mut [u32],
@@ -67,7 +65,7 @@ impl Device {
         self.send(released, now_ms)
     }
 
-    // The least copy with a due of at most `now_ms` leaves and is accounted; none due, or a refusal by 23, 21, 25 or 26.
+    // The same on a device that goes by value.
     pub fn release(
         mut self,
         tree: &mut TreeMut<'_>,

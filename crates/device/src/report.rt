@@ -15,7 +15,7 @@ pub struct Report {
 }
 
 impl Device {
-    // The report, or a refusal by 25.
+    // The report, or a refusal by 25, beside which nothing is told: the caller keeps the device, which has the counts.
     #[tactic(auto, unfolding(crate::specs::Others::report_of, crate::specs::Others::reported_by))]
     pub fn report(&self) -> Result<Report, Refusal>
         ensures { result ≡ report_of self.now }

@@ -6,9 +6,10 @@ use crate::device::Device;
 use numbers::Refusal;
 
 impl Device {
-    // A teardown in place. A queue that refuses was altered.
+    // All held copies go to torn, and their number is told; or a refusal by 25, or by 26: a queue that refuses was altered. In place, so that the settings are
+    // not copied.
     #[tactic(auto, unfolding(crate::specs::Others::teardown_of, crate::specs::Others::torn_by))]
-    fn teardown_in_place(&mut self) -> Result<u64, Refusal>
+    pub fn teardown_in_place(&mut self) -> Result<u64, Refusal>
         ensures { (self.new, result) ≡ teardown_of self.old }
     {
         self.judged(true, true, true)?;
@@ -23,7 +24,7 @@ impl Device {
         }
     }
 
-    // All held copies go to torn, and their number is told; or a refusal by 25 or 26.
+    // The same on a device that goes by value.
     pub fn teardown(mut self) -> (Device, Result<u64, Refusal>)
         ensures { result ≡ teardown_of self }
     {

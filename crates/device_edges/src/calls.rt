@@ -1,135 +1,109 @@
 // The calls over the memory of a host. Each prints its answer.
-ghost use Rattle.std.specs.Prelude.{◌≤◌};
-
-use crate::asked::Asked;
-use crate::memory::Memory;
-use crate::words;
+use crate::host::Host;
+use crate::state::State;
+use crate::words::{DeviceWords, ReportWords};
 use device::Device;
+use device_words::{Happened, Torn, lent};
+use engine_words::Flagged;
 use numbers::Refusal;
-use queue::{Rows, RowsMut, TreeMut};
+use options::DirectionConfig;
+use output::Answered;
+use queue_calls::{Answer, Lent, Memory, Part, Table, Told};
+use std::alloc::{AllocError, Global};
+use std::io;
+use std::io::Write;
 
-// The device and the memory after a call, and why it was refused.
-#[derive(Clone, Copy)]
-pub struct Called {
-    pub memory: Memory,
-    pub device: Device,
-    pub refusal: Option<Refusal>,
-}
+// How many copies the memory has room for, and how many bytes their slots have.
+const ENTRIES: u32 = 2;
 
-// The call of a step: a arrive, r release, b rebind, and else teardown.
-pub fn made(memory: Memory, device: Device, asked: Asked, step: u8) -> Called {
-    match step {
-        b'a' => arrive(memory, device, asked),
-        b'r' => release(memory, device, asked),
-        b'b' => rebind(memory, device, asked.now_ms),
-        _ => teardown(memory, device),
+const STORE: usize = 4096;
+
+impl<W: Write + Drop> Host<W> {
+    // A new device of a capacity, with the seed and the salt 0, over memory of zeros, of which a table may lack its last entry.
+    pub fn create(
+        &mut self,
+        config: DirectionConfig,
+        cap: usize,
+        short: Option<Table>,
+    ) -> io::Result<()> {
+        self.memory = memory(self.alloc)?;
+        self.short = short;
+        let (device, answer) = lent::create(&mut self.lent(), config, 0, 0, cap);
+        self.device = device;
+        self.kept = true;
+        self.tell(Answered(answer.map(|_| "created")))
+    }
+
+    // The same with a capacity of two copies and all of the memory.
+    pub fn open(&mut self, config: DirectionConfig) -> io::Result<()> {
+        self.create(config, ENTRIES as usize, None)
+    }
+
+    // The packet's route is 7.
+    pub fn arrive(&mut self, now_ms: f64, bytes: &[u8]) -> io::Result<()> {
+        let before = self.device;
+        let (after, answer) = lent::arrive(before, &mut self.lent(), now_ms, bytes, 7);
+        self.leave(after, answer.err());
+        self.tell(Answered(answer.map(Happened)))
+    }
+
+    pub fn release(&mut self, now_ms: f64) -> io::Result<()> {
+        let before = self.device;
+        let (after, answer) = lent::release(before, &mut self.lent(), now_ms);
+        self.leave(after, answer.err());
+        let store = self.memory.store.as_slice();
+        let words = answer
+            .map(Answer::Released)
+            .map(|answer| Told { answer, store });
+        write!(self.out, "; {}", Answered(words))
+    }
+
+    pub fn rebind(&mut self, now_ms: f64) -> io::Result<()> {
+        let (after, answer) = self.device.rebind(now_ms);
+        self.leave(after, answer.err());
+        self.tell(Answered(answer.map(|yes| Flagged("rebind ", yes))))
+    }
+
+    pub fn teardown(&mut self) -> io::Result<()> {
+        let (after, answer) = self.device.teardown();
+        self.leave(after, answer.err());
+        self.tell(Answered(answer.map(Torn)))
+    }
+
+    pub fn report(&mut self) -> io::Result<()> {
+        let answer = self.device.report();
+        self.tell(Answered(answer.map(ReportWords)))
+    }
+
+    pub fn tell_device(&mut self) -> io::Result<()> {
+        write!(self.out, "; {}", DeviceWords(&self.device))
+    }
+
+    // Whether every refused call since the creation has kept the device.
+    pub fn tell_kept(&mut self) -> io::Result<()> {
+        self.tell(Flagged("kept ", self.kept))
+    }
+
+    // What of the memory a call is lent.
+    fn lent(&mut self) -> Lent<'_> {
+        let part = Part {
+            start: 0,
+            entries: ENTRIES,
+            short: self.short,
+        };
+        self.memory.part(part)
+    }
+
+    // Takes over what a call has left; after 26 nothing is asked of the device.
+    fn leave(&mut self, after: Device, refusal: Option<Refusal>) {
+        if !matches!(refusal, None | Some(Refusal::Keeping)) {
+            self.kept &= State::of(&after) == State::of(&self.device);
+        }
+        self.device = after;
     }
 }
 
-// How many bytes of the store are lent: all but one where it is short.
-pub fn store_end(short: bool) -> usize
-    ensures { result ≤ 4096 }
-{
-    if short { 4095 } else { 4096 }
-}
-
-// A packet arrives, whose bytes are each the letter a; its route is 7.
-fn arrive(memory: Memory, device: Device, asked: Asked) -> Called {
-    let mut win = memory.win;
-    let free = memory.free;
-    let mut dues = memory.dues;
-    let mut seqs = memory.seqs;
-    let mut arrivals = memory.arrivals;
-    let mut routes = memory.routes;
-    let mut ids = memory.ids;
-    let mut lengths = memory.lengths;
-    let mut store = memory.store;
-    let bytes = [b'a'; 2049];
-    let end = store_end(asked.short);
-    let mut tree = TreeMut {
-        win: &mut win,
-        dues: &mut dues,
-        seqs: &mut seqs,
-    };
-    let mut rows = RowsMut {
-        arrivals: &mut arrivals,
-        routes: &mut routes,
-        copy_ids: &mut ids,
-        lengths: &mut lengths,
-        store: &mut store[..end],
-    };
-    let packet = values::front(&bytes, asked.length);
-    let (after, answer) = device.arrive(&mut tree, &free, &mut rows, asked.now_ms, packet, 7);
-    words::arrived(answer);
-    let left = Memory {
-        win,
-        free,
-        dues,
-        seqs,
-        arrivals,
-        routes,
-        ids,
-        lengths,
-        store,
-    };
-    Called {
-        memory: left,
-        device: after,
-        refusal: answer.err(),
-    }
-}
-
-fn release(mut memory: Memory, device: Device, asked: Asked) -> Called {
-    let mut win = memory.win;
-    let mut free = memory.free;
-    let mut dues = memory.dues;
-    let mut seqs = memory.seqs;
-    let arrivals = memory.arrivals;
-    let routes = memory.routes;
-    let ids = memory.ids;
-    let lengths = memory.lengths;
-    let store = memory.store;
-    let mut tree = TreeMut {
-        win: &mut win,
-        dues: &mut dues,
-        seqs: &mut seqs,
-    };
-    let rows = Rows {
-        arrivals: &arrivals,
-        routes: &routes,
-        copy_ids: &ids,
-        lengths: &lengths,
-        store: values::front(&store, store_end(asked.short)),
-    };
-    let (after, answer) = device.release(&mut tree, &mut free, rows, asked.now_ms);
-    words::released(answer, &store);
-    memory.win = win;
-    memory.free = free;
-    memory.dues = dues;
-    memory.seqs = seqs;
-    Called {
-        memory,
-        device: after,
-        refusal: answer.err(),
-    }
-}
-
-fn rebind(memory: Memory, device: Device, now_ms: f64) -> Called {
-    let (after, answer) = device.rebind(now_ms);
-    words::rebound(answer);
-    Called {
-        memory,
-        device: after,
-        refusal: answer.err(),
-    }
-}
-
-fn teardown(memory: Memory, device: Device) -> Called {
-    let (after, answer) = device.teardown();
-    words::torn(answer);
-    Called {
-        memory,
-        device: after,
-        refusal: answer.err(),
-    }
+// Memory of zeros.
+pub fn memory(alloc: Global) -> Result<Memory, AllocError> {
+    Memory::new(alloc, ENTRIES as usize, STORE)
 }

@@ -1,92 +1,55 @@
-// A host with one device, whose calls print their answers one after the other.
-use crate::asked::Asked;
-use crate::calls::Called;
-use crate::memory::Memory;
-use crate::{altered, calls, creation, payloads, same, words};
+// A host of one device, which prints each case on a line of its own.
+use crate::calls;
 use device::Device;
-use numbers::Refusal;
+use device_words::lent;
+use options::DirectionConfig;
+use queue_calls::{Memory, Table};
+use std::alloc::Global;
+use std::fmt::Display;
+use std::io;
+use std::io::Write;
 
-// `kept` says whether every refused call so far has kept the device as it was, and `named` whether the case has its name.
-#[derive(Clone, Copy)]
-pub struct Host {
+// `short` is the table that the calls are lent without its last entry; `kept` says whether every refused call so far has kept the device as it was.
+#[derive(Drop)]
+pub struct Host<W: Write + Drop> {
+    pub alloc: Global,
+    pub out: W,
     pub memory: Memory,
+    pub short: Option<Table>,
     pub device: Device,
-    pub asked: Asked,
     pub kept: bool,
-    pub named: bool,
 }
 
-impl Host {
-    // Before the first step: the device of a refused creation.
-    pub fn new() -> Self {
-        let (device, _) = creation::created(b'-', 0, 0);
-        Host {
-            memory: Memory::zeros(),
+impl<W: Write + Drop> Host<W> {
+    // Before the first creation: the device of a refused one.
+    pub fn new(alloc: Global, out: W) -> io::Result<Self> {
+        let mut memory = calls::memory(alloc)?;
+        let (device, _) = lent::create(&mut memory.lent(), DirectionConfig::default(), 0, 0, 0);
+        Ok(Host {
+            alloc,
+            out,
+            memory,
+            short: None,
             device,
-            asked: Asked::new(),
             kept: true,
-            named: false,
-        }
+        })
     }
 
-    pub fn create(mut self) -> Self {
-        let asked = self.asked;
-        let (device, answer) = creation::created(asked.settings, asked.cap, asked.short_table);
-        words::created(answer);
-        self.device = device;
-        self
+    // A line: the name of a case, and what its calls answer.
+    pub fn case<F: FnOnce(&mut Self) -> io::Result<()>>(
+        &mut self,
+        name: &str,
+        calls: F,
+    ) -> io::Result<()>
+        requires { F.IsAlwaysCallable calls }
+    {
+        write!(self.out, "{name}")?;
+        calls(self)?;
+        writeln!(self.out)
     }
 
-    // The host after a call.
-    pub fn call(self, step: u8) -> Self {
-        let memory = self.memory;
-        let device = self.device;
-        let asked = self.asked;
-        self.then(calls::made(memory, device, asked, step))
-    }
-
-    // What the steps that change nothing say.
-    pub fn say(self, step: u8) {
-        let device = self.device;
-        match step {
-            b'd' => words::device(device),
-            b'p' => words::reported(device.report()),
-            b'k' => words::kept(self.kept),
-            b'i' => payloads::print(1, 2048),
-            b'j' => payloads::print(1, 2049),
-            b'o' => payloads::print(2, 1),
-            b'q' => payloads::print(u32::MAX, 2048),
-            b'u' => payloads::print(0, usize::MAX),
-            _ => {}
-        }
-    }
-
-    // The host after a step that makes no call.
-    pub fn with(mut self, step: u8) -> Self {
-        let asked = self.asked;
-        let device = self.device;
-        let memory = self.memory;
-        let after = altered::altered(device, step, asked.count);
-        let lent = memory.after(step);
-        let next = asked.after(step);
-        self.device = after;
-        self.memory = lent;
-        self.asked = next;
-        self
-    }
-
-    // The host with what a call has left; after 26 nothing is asked of the device.
-    fn then(mut self, called: Called) -> Self {
-        let memory = called.memory;
-        let before = self.device;
-        let after = called.device;
-        let kept = match called.refusal {
-            None | Some(Refusal::Keeping) => true,
-            Some(_) => same::is_same(before, after),
-        };
-        self.kept = self.kept & kept;
-        self.memory = memory;
-        self.device = after;
-        self
+    // An answer behind those before it.
+    pub fn tell<T: Display + Drop>(&mut self, answer: T) -> io::Result<()> {
+        write!(self.out, "; {answer}")
     }
 }

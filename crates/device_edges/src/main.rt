@@ -3,23 +3,30 @@
 #![tactic(auto)]
 
 mod altered;
-mod asked;
 mod calls;
-mod cases;
-mod creation;
+mod configs;
+mod counters;
+mod creations;
 mod host;
-mod memory;
+mod order;
+mod packets;
 mod payloads;
-mod same;
-mod settings_of;
-mod steps_of;
+mod runs;
+mod state;
 mod words;
 
-fn main() {
-    cases::creations();
-    cases::order();
-    cases::counters();
-    cases::altered();
-    cases::runs();
-    cases::payloads();
+use host::Host;
+use std::io;
+use std::io::{BufWriter, Write};
+
+fn main(rt: HostRuntime) -> io::Result<()> {
+    let alloc = rt.alloc();
+    let mut host = Host::new(alloc, BufWriter::new(alloc, io::writer(&rt))?)?;
+    creations::run(&mut host)?;
+    order::run(&mut host)?;
+    counters::run(&mut host)?;
+    altered::run(&mut host)?;
+    runs::run(&mut host)?;
+    payloads::run(&mut host)?;
+    host.out.flush()
 }

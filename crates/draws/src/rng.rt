@@ -7,7 +7,7 @@ pub const GOLDEN_GAMMA: u64 = 0x9E37_79B9_7F4A_7C15;
 // How many draws from 0 up to 1 there are: 2^53.
 const DRAWS: f64 = 9007199254740992.0;
 
-// The generator xorshift64*.
+// The generator xorshift64*. A draw takes it by value and hands it back beside what was drawn: document 01 gives its calls this form.
 #[derive(Clone, Copy)]
 pub struct Rng {
     pub state: u64,

@@ -15,7 +15,7 @@ pub fn mix(seed: u64, salt: u64) -> u64
     z ^ (z >> 31)
 }
 
-// The generator's seed for a device that takes one direction's settings.
+// The generator's seed for a device that takes one direction's settings. It stands beside `mix`, since document 01 names both of the source.
 pub fn direction_seed(seed: u64, salt: u64) -> u64
     ensures { result ≡ direction_seed_of seed salt }
 {

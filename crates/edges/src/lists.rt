@@ -1,48 +1,77 @@
-// Lists of windows that are altered. The numbers of a step are a start, an end, and how many entries are counted.
-use crate::step_numbers::Numbers;
-use options::DirectionConfig;
-use settings::{KillStyle, TcpKill, Window};
+// Windows and kills at the limits of refusal 29: only the counted entries are judged.
+use crate::creations::say_creation;
+use crate::limits::{GREATEST, TOO_GREAT};
+use numbers::MAX_ENTRIES;
+use options::{KillStyle, TcpKill, Window};
+use std::io;
+use std::io::Write;
 
-// What a step sets: W the first blackout and V every one, K the first kill and I every one.
-pub fn altered(mut d: DirectionConfig, step: u8, n: Numbers) -> DirectionConfig {
+pub fn say<W: Write>(out: &mut W) -> io::Result<()> {
+    say_first_blackouts(out)?;
+    say_full_blackouts(out)?;
+    say_first_kills(out)?;
+    say_full_kills(out)
+}
+
+// A window as the first blackout, and how many are counted.
+fn say_first_blackouts<W: Write>(out: &mut W) -> io::Result<()> {
+    for (name, start_ms, end_ms, count) in [
+        ("blackout 5:5 counted", 5, 5, 1),
+        ("blackout 5:5 not counted", 5, 5, 0),
+        ("blackout 5:6 of two", 5, 6, 2),
+        ("blackout 0:2^53", 0, GREATEST, 1),
+        ("blackout 0:2^53+1", 0, TOO_GREAT, 1),
+    ] {
+        say_creation(out, name, |settings| {
+            settings.blackouts[0] = Window { start_ms, end_ms };
+            settings.blackout_count = count;
+        })?;
+    }
+    Ok(())
+}
+
+fn say_full_blackouts<W: Write>(out: &mut W) -> io::Result<()> {
     let window = Window {
-        start_ms: n.first,
-        end_ms: n.second,
+        start_ms: 5,
+        end_ms: 6,
     };
-    let blackouts = blackouts_after(d, step, window);
-    let kills = kills_after(d, step, window);
-    match step {
-        b'W' | b'V' => d.blackout_count = n.last as usize,
-        b'K' | b'I' => d.tcp_kill_count = n.last as usize,
-        _ => {}
+    for (name, count) in [("blackouts 128", 128), ("blackouts 129", 129)] {
+        say_creation(out, name, |settings| {
+            settings.blackouts = [window; MAX_ENTRIES];
+            settings.blackout_count = count;
+        })?;
     }
-    d.blackouts = blackouts;
-    d.tcp_kills = kills;
-    d
+    Ok(())
 }
 
-fn blackouts_after(d: DirectionConfig, step: u8, window: Window) -> [Window; 128] {
-    let mut blackouts = d.blackouts;
-    if step == b'V' {
-        return [window; 128];
+// A window as the first kill, and how many are counted.
+fn say_first_kills<W: Write>(out: &mut W) -> io::Result<()> {
+    for (name, start_ms, end_ms, count) in [
+        ("kill 6:5 counted", 6, 5, 1),
+        ("kill 6:5 not counted", 6, 5, 0),
+        ("kill 5:6", 5, 6, 1),
+    ] {
+        say_creation(out, name, |settings| {
+            settings.tcp_kills[0] = kill_of(start_ms, end_ms);
+            settings.tcp_kill_count = count;
+        })?;
     }
-    if step == b'W' {
-        blackouts[0] = window;
-    }
-    blackouts
+    Ok(())
 }
 
-fn kills_after(d: DirectionConfig, step: u8, window: Window) -> [TcpKill; 128] {
-    let mut kills = d.tcp_kills;
-    let kill = TcpKill {
-        window,
+fn say_full_kills<W: Write>(out: &mut W) -> io::Result<()> {
+    for (name, count) in [("kills 128", 128), ("kills 129", 129)] {
+        say_creation(out, name, |settings| {
+            settings.tcp_kills = [kill_of(5, 6); MAX_ENTRIES];
+            settings.tcp_kill_count = count;
+        })?;
+    }
+    Ok(())
+}
+
+fn kill_of(start_ms: u64, end_ms: u64) -> TcpKill {
+    TcpKill {
+        window: Window { start_ms, end_ms },
         style: KillStyle::Rst,
-    };
-    if step == b'I' {
-        return [kill; 128];
     }
-    if step == b'K' {
-        kills[0] = kill;
-    }
-    kills
 }

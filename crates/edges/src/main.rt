@@ -1,19 +1,23 @@
 // Calls of the arrival engine on settings and states that no option text and no arrival makes; the file stdout has what document 01 says of them.
 #![tactic(auto)]
 
-mod altered;
-mod calls;
-mod cases;
+mod case;
+mod creations;
+mod engines;
+mod limits;
 mod lists;
-mod settings_of;
-mod step_numbers;
-mod steps_of;
+mod order;
+mod states;
 mod words;
 
-fn main() {
-    cases::floats();
-    cases::numbers();
-    cases::lists();
-    cases::order();
-    cases::states();
+use std::io;
+use std::io::{BufWriter, Write};
+
+fn main(rt: HostRuntime) -> io::Result<()> {
+    let mut out = BufWriter::new(rt.alloc(), io::writer(&rt))?;
+    limits::say(&mut out)?;
+    lists::say(&mut out)?;
+    order::say(&mut out)?;
+    states::say(&mut out)?;
+    out.flush()
 }

@@ -1,44 +1,43 @@
-// Answers and states as words, each behind a blank.
-use numbers::Refusal;
-use output::collected;
-use steps::Decision;
+// The state of an engine as words.
+use engine::ArrivalEngine;
+use output::Bits;
+use std::fmt;
 
-pub fn outcome(word: &[u8], outcome: Result<(), Refusal>) {
-    let mut space = [0u8; 64];
-    let out: &mut [u8] = &mut space;
-    let blank = collected::text(out, 0, b" ");
-    let all = engine_words::outcome(out, blank, word, outcome);
-    collected::flush(out, all);
+// The credit, the instant of the last refill, and the packets received.
+#[derive(Clone, Copy)]
+pub struct Bucket<'a>(pub &'a ArrivalEngine);
+
+impl<'a> fmt::Display for Bucket<'a> {
+    fn fmt<W: fmt::Write>(&self, f: &mut fmt::Formatter<W>) -> fmt::Result {
+        let engine = self.0;
+        write!(f, "{} {}", Bits(engine.tokens), Bits(engine.last_refill_ms))?;
+        write!(f, " {}", engine.stats.received_pkts)
+    }
 }
 
-pub fn said(word: &[u8], answer: Result<bool, Refusal>) {
-    let mut space = [0u8; 64];
-    let out: &mut [u8] = &mut space;
-    let blank = collected::text(out, 0, b" ");
-    let all = engine_words::said(out, blank, word, answer);
-    collected::flush(out, all);
+// The state of the generator, and whether burst loss is on.
+#[derive(Clone, Copy)]
+pub struct Generator<'a>(pub &'a ArrivalEngine);
+
+impl<'a> fmt::Display for Generator<'a> {
+    fn fmt<W: fmt::Write>(&self, f: &mut fmt::Formatter<W>) -> fmt::Result {
+        let engine = self.0;
+        write!(f, "{:016x} {}", engine.rng.state, u8::from(engine.ge_bad))
+    }
 }
 
-pub fn decided(answer: Result<Decision, Refusal>) {
-    let mut space = [0u8; 64];
-    let out: &mut [u8] = &mut space;
-    let blank = collected::text(out, 0, b" ");
-    let all = engine_words::decided(out, blank, answer);
-    collected::flush(out, all);
-}
+// The next rebind, and the rebinds counted.
+#[derive(Clone, Copy)]
+pub struct Rebinds<'a>(pub &'a ArrivalEngine);
 
-pub fn bucket(tokens: f64, last_refill_ms: f64, received: u64) {
-    output::float(tokens);
-    output::float(last_refill_ms);
-    output::count(received);
-}
-
-pub fn generator(state: u64, bad: bool) {
-    output::hex(state);
-    output::flag(bad);
-}
-
-pub fn rebinds(next_ms: f64, counted: u64) {
-    output::float(next_ms);
-    output::count(counted);
+impl<'a> fmt::Display for Rebinds<'a> {
+    fn fmt<W: fmt::Write>(&self, f: &mut fmt::Formatter<W>) -> fmt::Result {
+        let engine = self.0;
+        write!(
+            f,
+            "{} {}",
+            Bits(engine.next_rebind_ms),
+            engine.stats.nat_rebinds
+        )
+    }
 }

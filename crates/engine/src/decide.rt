@@ -12,12 +12,24 @@ use numbers::Refusal;
 use steps::{ArrivalState, Decision};
 
 impl ArrivalEngine {
+    // What a decision left, with the settings from before it: they are the same, and the compiler then leaves most of their copies out.
+    fn with_changes(self, after: ArrivalEngine) -> ArrivalEngine
+        requires { after.cfg ≡ self.cfg }
+        ensures { result ≡ after }
+    {
+        ArrivalEngine {
+            cfg: self.cfg,
+            ..after
+        }
+    }
+
     // All steps of an arrival that no refusal met.
     #[tactic(auto, unfolding(crate::specs::Decide::decide_passed_of, crate::specs::Decide::after_of, crate::specs::Engine::state_of))]
     fn decide_passed(&mut self, now_ms: f64, len: usize) -> Decision
         requires counters { SmallStats self.old.stats }
         requires length { len ≤ max_length }
-        ensures { (self.new, result) ≡ decide_passed_of self.old now_ms len }
+        ensures decided { (self.new, result) ≡ decide_passed_of self.old now_ms len }
+        ensures kept { self.new.cfg ≡ self.old.cfg }
     {
         let gate = gate_at(&self.cfg, now_ms);
         let before = ArrivalState {
@@ -39,7 +51,8 @@ impl ArrivalEngine {
     // The decision for settings that pass 29 or not, or a refusal by 29, 21, 22 or 25.
     #[tactic(auto, unfolding(crate::specs::Calls::decide_given_of))]
     fn decide_given(&mut self, settings: bool, now_ms: f64, len: usize) -> Result<Decision, Refusal>
-        ensures { (self.new, result) ≡ decide_given_of settings self.old now_ms len }
+        ensures decided { (self.new, result) ≡ decide_given_of settings self.old now_ms len }
+        ensures kept { self.new.cfg ≡ self.old.cfg }
     {
         self.judged_given(
             settings,
@@ -52,25 +65,36 @@ impl ArrivalEngine {
     // Drops the packet, enqueues it or resets its connection, or refuses by 21, 22 or 25, for an engine whose settings were judged when it was made. In place, for
     // a device, whose settings are too long to be copied with each arrival.
     pub fn decide_in_place(&mut self, now_ms: f64, len: usize) -> Result<Decision, Refusal>
-        ensures { (self.new, result) ≡ decide_unchecked_of self.old now_ms len }
+        ensures decided { (self.new, result) ≡ decide_unchecked_of self.old now_ms len }
+        ensures kept { self.new.cfg ≡ self.old.cfg }
     {
         self.decide_given(true, now_ms, len)
     }
 
     // The same on an engine that goes by value.
-    pub fn decide_unchecked(mut self, now_ms: f64, len: usize) -> (Self, Result<Decision, Refusal>)
+    pub fn decide_unchecked(self, now_ms: f64, len: usize) -> (Self, Result<Decision, Refusal>)
         ensures { result ≡ decide_unchecked_of self now_ms len }
     {
-        let answer = self.decide_in_place(now_ms, len);
-        (self, answer)
+        let mut after = self;
+        let answer = after.decide_in_place(now_ms, len);
+        (self.with_changes(after), answer)
     }
 
-    // The same with the settings judged by 29 first.
-    pub fn decide(mut self, now_ms: f64, len: usize) -> (Self, Result<Decision, Refusal>)
-        ensures { result ≡ decide_of self now_ms len }
+    // The same in place, with the settings judged by 29 first.
+    pub fn decide_judged_in_place(&mut self, now_ms: f64, len: usize) -> Result<Decision, Refusal>
+        ensures decided { (self.new, result) ≡ decide_of self.old now_ms len }
+        ensures kept { self.new.cfg ≡ self.old.cfg }
     {
         let settings = judgement::is_settings(&self.cfg);
-        let answer = self.decide_given(settings, now_ms, len);
-        (self, answer)
+        self.decide_given(settings, now_ms, len)
+    }
+
+    // The same on an engine that goes by value.
+    pub fn decide(self, now_ms: f64, len: usize) -> (Self, Result<Decision, Refusal>)
+        ensures { result ≡ decide_of self now_ms len }
+    {
+        let mut after = self;
+        let answer = after.decide_judged_in_place(now_ms, len);
+        (self.with_changes(after), answer)
     }
 }

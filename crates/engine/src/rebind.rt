@@ -6,9 +6,9 @@ use crate::engine::ArrivalEngine;
 use numbers::Refusal;
 
 impl ArrivalEngine {
-    // Rebinds where the instant of the next rebind has come.
+    // Whether the outbound socket is to be changed now, or a refusal by 29, 21 or 25. In place, so that the settings are not copied.
     #[tactic(auto, unfolding(crate::specs::Calls::should_rebind_now_of, crate::specs::Changes::rebound_of, crate::specs::Changes::with_others))]
-    fn rebound(&mut self, now_ms: f64) -> Result<bool, Refusal>
+    pub fn should_rebind_now_in_place(&mut self, now_ms: f64) -> Result<bool, Refusal>
         ensures { (self.new, result) ≡ should_rebind_now_of self.old now_ms }
     {
         self.judged(numbers::is_instant(now_ms), true)?;
@@ -21,11 +21,11 @@ impl ArrivalEngine {
         Ok(false)
     }
 
-    // Whether the outbound socket is to be changed now, or a refusal by 29, 21 or 25.
+    // The same on an engine that goes by value.
     pub fn should_rebind_now(mut self, now_ms: f64) -> (Self, Result<bool, Refusal>)
         ensures { result ≡ should_rebind_now_of self now_ms }
     {
-        let answer = self.rebound(now_ms);
+        let answer = self.should_rebind_now_in_place(now_ms);
         (self, answer)
     }
 }

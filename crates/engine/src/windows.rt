@@ -1,9 +1,10 @@
 // What the windows of the settings say of an instant.
 ghost use Rattle.std.specs.Prelude.{◌≡◌, take};
-ghost use Rattle.steps.specs.Gate.{kill_gate_of, any_window_of, kill_now_of};
+ghost use Rattle.steps.specs.Gate.{kill_gate_of, any_window_of, is_rst_of, kill_now_of};
 ghost use Rattle.engine.specs.Engine.{gate_at_of};
 
 use options::DirectionConfig;
+use settings::KillStyle;
 use steps::Gate;
 
 // What the kills say of the instant.
@@ -33,10 +34,10 @@ pub(crate) fn gate_at(cfg: &DirectionConfig, now_ms: f64) -> Gate
     }
 }
 
-// Whether the instant lies in the window of some kill that resets, or of some kill that holds bytes back.
-#[tactic(auto, unfolding(steps::specs::Gate::kill_now_of))]
-pub(crate) fn kill_at(cfg: &DirectionConfig, rst: bool, now_ms: f64) -> bool
-    ensures { result ≡ kill_now_of rst (take cfg.now.tcp_kill_count cfg.now.tcp_kills) now_ms }
+// Whether the instant lies in the window of some kill of the style.
+#[tactic(auto, unfolding(steps::specs::Gate::kill_now_of, steps::specs::Gate::is_rst_of))]
+pub(crate) fn kill_at(cfg: &DirectionConfig, style: KillStyle, now_ms: f64) -> bool
+    ensures { result ≡ kill_now_of (is_rst_of style) (take cfg.now.tcp_kill_count cfg.now.tcp_kills) now_ms }
 {
-    steps::kill_now(&cfg.tcp_kills, cfg.tcp_kill_count, rst, now_ms)
+    steps::kill_now(&cfg.tcp_kills, cfg.tcp_kill_count, style, now_ms)
 }

@@ -1,54 +1,40 @@
-// The engine's answers as words, for the programs. `out` and `at` are those of output::collected.
+// The engine's answers as words, and the direction that a word names, for the programs.
 #![tactic(auto)]
 
+mod direction;
 pub mod stats;
 
-use numbers::Refusal;
-use output::collected;
-use script::answers;
+pub use direction::Direction;
+use output::Bits;
+use std::fmt;
 use steps::Decision;
 
-pub fn decided(out: &mut [u8], at: usize, answer: Result<Decision, Refusal>) -> usize {
-    match answer {
-        Ok(decision) => decision_text(out, at, decision),
-        Err(refusal) => answers::refused(out, at, refusal.number()),
-    }
-}
+// What becomes of an arriving packet.
+#[derive(Clone, Copy)]
+pub struct Decided(pub Decision);
 
-pub fn decision_text(out: &mut [u8], at: usize, decision: Decision) -> usize {
-    match decision {
-        Decision::DropRandom => collected::text(out, at, b"drop random"),
-        Decision::DropGe => collected::text(out, at, b"drop ge"),
-        Decision::DropMtu => collected::text(out, at, b"drop mtu"),
-        Decision::DropBlackout => collected::text(out, at, b"drop blackout"),
-        Decision::DropKillHold => collected::text(out, at, b"drop kill-hold"),
-        Decision::Enqueue { due_ms, extra_dup } => enqueue_text(out, at, due_ms, extra_dup),
-        Decision::KillRst => collected::text(out, at, b"reset"),
-    }
-}
-
-fn enqueue_text(out: &mut [u8], at: usize, due_ms: f64, extra_dup: bool) -> usize {
-    let word = collected::text(out, at, b"enqueue ");
-    let due = collected::float(out, word, due_ms);
-    let blank = collected::text(out, due, b" ");
-    collected::decimal(out, blank, extra_dup as u64)
-}
-
-// The word and 0 or 1, or the refusal.
-pub fn said(out: &mut [u8], at: usize, word: &[u8], answer: Result<bool, Refusal>) -> usize {
-    match answer {
-        Ok(yes) => {
-            let end = collected::text(out, at, word);
-            collected::decimal(out, end, yes as u64)
+impl fmt::Display for Decided {
+    fn fmt<W: fmt::Write>(&self, f: &mut fmt::Formatter<W>) -> fmt::Result {
+        match self.0 {
+            Decision::DropRandom => f.write_str("drop random"),
+            Decision::DropGe => f.write_str("drop ge"),
+            Decision::DropMtu => f.write_str("drop mtu"),
+            Decision::DropBlackout => f.write_str("drop blackout"),
+            Decision::DropKillHold => f.write_str("drop kill-hold"),
+            Decision::Enqueue { due_ms, extra_dup } => {
+                write!(f, "enqueue {} {}", Bits(due_ms), u8::from(extra_dup))
+            }
+            Decision::KillRst => f.write_str("reset"),
         }
-        Err(refusal) => answers::refused(out, at, refusal.number()),
     }
 }
 
-// The word, or the refusal.
-pub fn outcome(out: &mut [u8], at: usize, word: &[u8], outcome: Result<(), Refusal>) -> usize {
-    match outcome {
-        Ok(()) => collected::text(out, at, word),
-        Err(refusal) => answers::refused(out, at, refusal.number()),
+// A word, and 1 or 0 for yes or no.
+#[derive(Clone, Copy)]
+pub struct Flagged(pub &'static str, pub bool);
+
+impl fmt::Display for Flagged {
+    fn fmt<W: fmt::Write>(&self, f: &mut fmt::Formatter<W>) -> fmt::Result {
+        write!(f, "{}{}", self.0, u8::from(self.1))
     }
 }

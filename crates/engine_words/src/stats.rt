@@ -1,24 +1,48 @@
-// The counters of DirectionStats as words, each behind a blank. `out` and `at` are those of output::collected.
+// The counters of DirectionStats as words, each behind a blank.
 use accounts::DirectionStats;
-use output::collected;
+use output::Counts;
+use std::fmt;
 
-pub fn received(out: &mut [u8], at: usize, stats: DirectionStats) -> usize {
-    let end = collected::count(out, at, stats.received_pkts);
-    collected::count(out, end, stats.received_bytes)
-}
+// The packets that came, and their bytes.
+#[derive(Clone, Copy)]
+pub struct Received<'a>(pub &'a DirectionStats);
 
-pub fn drops(out: &mut [u8], at: usize, stats: DirectionStats) -> usize {
-    let mut end = collected::count(out, at, stats.dropped_random);
-    end = collected::count(out, end, stats.dropped_ge);
-    end = collected::count(out, end, stats.dropped_mtu);
-    end = collected::count(out, end, stats.dropped_blackout);
-    collected::count(out, end, stats.dropped_overflow)
-}
+// The packets that were dropped, by the cause.
+#[derive(Clone, Copy)]
+pub struct Dropped<'a>(pub &'a DirectionStats);
 
 // What becomes of packets that are not dropped.
-pub fn others(out: &mut [u8], at: usize, stats: DirectionStats) -> usize {
-    let mut end = collected::count(out, at, stats.duplicates);
-    end = collected::count(out, end, stats.reorder_hits);
-    end = collected::count(out, end, stats.rate_deferred);
-    collected::count(out, end, stats.nat_rebinds)
+#[derive(Clone, Copy)]
+pub struct Others<'a>(pub &'a DirectionStats);
+
+impl<'a> fmt::Display for Received<'a> {
+    fn fmt<W: fmt::Write>(&self, f: &mut fmt::Formatter<W>) -> fmt::Result {
+        let counts = [self.0.received_pkts, self.0.received_bytes];
+        write!(f, "{}", Counts(&counts))
+    }
+}
+
+impl<'a> fmt::Display for Dropped<'a> {
+    fn fmt<W: fmt::Write>(&self, f: &mut fmt::Formatter<W>) -> fmt::Result {
+        let counts = [
+            self.0.dropped_random,
+            self.0.dropped_ge,
+            self.0.dropped_mtu,
+            self.0.dropped_blackout,
+            self.0.dropped_overflow,
+        ];
+        write!(f, "{}", Counts(&counts))
+    }
+}
+
+impl<'a> fmt::Display for Others<'a> {
+    fn fmt<W: fmt::Write>(&self, f: &mut fmt::Formatter<W>) -> fmt::Result {
+        let counts = [
+            self.0.duplicates,
+            self.0.reorder_hits,
+            self.0.rate_deferred,
+            self.0.nat_rebinds,
+        ];
+        write!(f, "{}", Counts(&counts))
+    }
 }

@@ -1,4 +1,5 @@
-// The lists of a direction: entries that are not counted may be anything. A function for both would be longer than the two.
+// The lists of a direction: entries that are not counted may be anything.
+// A function for both would be longer than the two, since it would take the list, its count and the test of an entry.
 ghost use Rattle.std.specs.Prelude.{◌≡◌};
 ghost use Rattle.settings.specs.Judgement.{is_window, is_kill, is_list};
 
@@ -10,17 +11,12 @@ pub(crate) fn are_blackouts(cfg: &DirectionConfig) -> bool
     ensures { result ≡ is_list is_window cfg.now.blackouts cfg.now.blackout_count }
 {
     let count = cfg.blackout_count;
-    count <= MAX_ENTRIES && cfg.blackouts.iter().take(count).all(|w| is_window(*w))
+    count <= MAX_ENTRIES && cfg.blackouts[..count].iter().all(|w| is_window(*w))
 }
 
 pub(crate) fn are_tcp_kills(cfg: &DirectionConfig) -> bool
     ensures { result ≡ is_list is_kill cfg.now.tcp_kills cfg.now.tcp_kill_count }
 {
     let count = cfg.tcp_kill_count;
-    count <= MAX_ENTRIES
-        && cfg
-            .tcp_kills
-            .iter()
-            .take(count)
-            .all(|k| is_window(k.window))
+    count <= MAX_ENTRIES && cfg.tcp_kills[..count].iter().all(|k| is_window(k.window))
 }

@@ -1,24 +1,33 @@
 // One setting of a direction.
 ghost use Rattle.std.specs.Prelude.{◌≡◌};
 ghost use Rattle.values.specs.Whole.{is_bounded};
-ghost use Rattle.settings.specs.Judgement.{is_probability, is_time, is_positive, is_ge, is_window};
+ghost use Rattle.settings.specs.Judgement.{is_within, is_probability, is_time, is_positive, is_ge, is_window};
 ghost use Rattle.judgement.specs.Scalars.{is_rate, is_mtu};
 
 use numbers::MAX_EXACT;
 use settings::{Ge, Window};
 
-// From 0 to 1; a NaN is not.
+// From 0 to a bound; a NaN is not.
+#[tactic(auto, using(numbers::specs::Laws::Literals::zero_is))]
+fn is_within(bound: f64, x: f64) -> bool
+    ensures { result ≡ is_within bound x }
+{
+    0.0 <= x && x <= bound
+}
+
+// From 0 to 1.
+#[tactic(auto, using(numbers::specs::Laws::Literals::one_is))]
 pub(crate) fn is_probability(x: f64) -> bool
     ensures { result ≡ is_probability x }
 {
-    0.0 <= x && x <= 1.0
+    is_within(1.0, x)
 }
 
-// From 0 to 999999999999999 milliseconds; a NaN is not.
+// From 0 to 999999999999999 milliseconds.
 pub(crate) fn is_time(x: f64) -> bool
     ensures { result ≡ is_time x }
 {
-    0.0 <= x && x <= 999999999999999.0
+    is_within(999999999999999.0, x)
 }
 
 // At most 2^53.
@@ -37,10 +46,7 @@ fn is_positive(n: u64) -> bool
 pub(crate) fn is_ge(ge: Option<Ge>) -> bool
     ensures { result ≡ is_ge ge }
 {
-    match ge {
-        None => true,
-        Some(g) => is_probability(g.p) && is_probability(g.r) && is_probability(g.h),
-    }
+    ge.is_none_or(|g| is_probability(g.p) && is_probability(g.r) && is_probability(g.h))
 }
 
 // A rate is a u64 and an MTU a usize, so that one function of both would be longer than the two.

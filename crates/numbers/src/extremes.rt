@@ -15,14 +15,15 @@ pub fn minimum(x: f64, y: f64) -> f64
     chosen(y < x, x, y)
 }
 
-// What is no NaN, and of two numbers y or x by the test.
+// What is no NaN, and of two numbers y or x by the test. By hand, since std's `max` and `min` leave open which of two zeros they give.
+#[tactic(auto, unfolding(crate::specs::Extremes::chosen_of))]
 fn chosen(second: bool, x: f64, y: f64) -> f64
     ensures { result ≡ chosen_of second x y }
 {
-    if x != x {
+    if x.is_nan() {
         return y;
     }
-    if y != y {
+    if y.is_nan() {
         return x;
     }
     if second { y } else { x }

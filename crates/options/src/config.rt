@@ -6,7 +6,7 @@ use crate::mode::Mode;
 use numbers::MAX_ENTRIES;
 use settings::{Ge, TcpKill, Window, no_kill, no_window};
 
-// What a direction does to its packets; of the two lists only the counted entries are settings.
+// What a direction does to its packets; of the two lists only the counted entries are settings. Document 01 has them as arrays of 128 with a count.
 #[derive(Clone, Copy)]
 pub struct DirectionConfig {
     pub loss: f64,
@@ -26,12 +26,13 @@ pub struct DirectionConfig {
     pub tcp_kill_count: usize,
 }
 
-impl DirectionConfig {
+// By hand, since a derived `default` has no clause.
+#[tactic(auto, using(numbers::specs::Laws::Literals::zero_is), unfolding(crate::specs::Config::default_direction, crate::specs::Config::direction_with))]
+impl Default for DirectionConfig {
+    ghost is_default = { λ d. d ≡ default_direction };
+
     // A direction that changes nothing.
-    #[tactic(auto, using(numbers::specs::Laws::Literals::zero_is), unfolding(crate::specs::Config::default_direction, crate::specs::Config::direction_with))]
-    pub fn default() -> DirectionConfig
-        ensures { result ≡ default_direction }
-    {
+    fn default() -> Self {
         DirectionConfig {
             loss: 0.0,
             ge: None,
@@ -70,12 +71,13 @@ pub struct Config {
     pub s2c: DirectionConfig,
 }
 
-impl Config {
+// By hand, since a derived `default` has no clause.
+#[tactic(auto, unfolding(crate::specs::Config::default_config))]
+impl Default for Config {
+    ghost is_default = { λ c. c ≡ default_config };
+
     // The settings of a text without arguments.
-    #[tactic(auto, unfolding(crate::specs::Config::default_config))]
-    pub fn default() -> Config
-        ensures { result ≡ default_config }
-    {
+    fn default() -> Self {
         Config {
             mode: Mode::Udp,
             seed: DEFAULT_SEED,

@@ -4,11 +4,13 @@ ghost use Rattle.options.specs.Directions.{combined_of, direction_of};
 
 use crate::config::DirectionConfig;
 use crate::delays::{Delays, delays_of};
+use crate::keys::Keys;
 use crate::limits::{Limits, limits_of};
 use crate::losses::{Losses, losses_of};
 use crate::schedules::{Schedules, schedules_of};
 use numbers::Refusal;
 
+// The source's settings have no parts, so the four are joined field by field.
 #[tactic(auto, unfolding(crate::specs::Directions::combined_of))]
 fn combined(a: Losses, b: Delays, c: Limits, d: Schedules) -> DirectionConfig
     ensures { result ≡ combined_of a b c d }
@@ -34,14 +36,14 @@ fn combined(a: Losses, b: Delays, c: Limits, d: Schedules) -> DirectionConfig
     }
 }
 
-// The settings of the direction whose keys start with prefix.
+// The settings of the direction that the prefix names.
 #[tactic(auto, unfolding(crate::specs::Directions::direction_of))]
-pub fn direction_of(text: &[u8], prefix: &[u8]) -> Result<DirectionConfig, Refusal>
-    ensures { result ≡ direction_of text.now prefix.now }
+pub fn direction_of(keys: Keys) -> Result<DirectionConfig, Refusal>
+    ensures { result ≡ direction_of keys.entry.text.now keys.entry.prefix.now }
 {
-    let losses = losses_of(text, prefix)?;
-    let delays = delays_of(text, prefix)?;
-    let limits = limits_of(text, prefix)?;
-    let schedules = schedules_of(text, prefix)?;
+    let losses = losses_of(keys)?;
+    let delays = delays_of(keys)?;
+    let limits = limits_of(keys)?;
+    let schedules = schedules_of(keys)?;
     Ok(combined(losses, delays, limits, schedules))
 }

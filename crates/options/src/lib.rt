@@ -4,6 +4,7 @@
 mod config;
 mod delays;
 mod direction;
+mod keys;
 mod limits;
 mod losses;
 mod mode;

@@ -2,7 +2,7 @@
 ghost use Rattle.std.specs.Prelude.{◌≡◌};
 ghost use Rattle.options.specs.Directions.{default_burst_of, burst_of, rate_and_burst_of, mtu_of, limits_of};
 
-use args::last_of;
+use crate::keys::Keys;
 use numbers::Refusal;
 use values::{parse_bounded, parse_positive, parse_prob};
 
@@ -22,12 +22,7 @@ const LEAST_BURST: u64 = 1500;
 pub fn default_burst(bps: u64) -> u64
     ensures { result ≡ default_burst_of bps }
 {
-    let second = bps / 8;
-    if second < LEAST_BURST {
-        LEAST_BURST
-    } else {
-        second
-    }
+    (bps / 8).max(LEAST_BURST)
 }
 
 // The burst that was set, or else the rate's own.
@@ -43,33 +38,35 @@ fn burst_of(burst: u64, rate: Option<u64>) -> u64
 
 // The rate, and the burst that goes with it.
 #[tactic(auto, unfolding(crate::specs::Directions::rate_and_burst_of))]
-fn rate_and_burst(text: &[u8], prefix: &[u8]) -> Result<(Option<u64>, u64), Refusal>
-    ensures { result ≡ rate_and_burst_of text.now prefix.now }
+fn rate_and_burst(keys: Keys) -> Result<(Option<u64>, u64), Refusal>
+    ensures { result ≡ rate_and_burst_of keys.entry.text.now keys.entry.prefix.now }
 {
-    let rate = last_of(text, prefix, b"rate-bps")
+    // Closures, since a free function of another crate has no proof where it is passed by its name.
+    let rate = keys
+        .last(b"rate-bps")
         .map(|v| parse_positive(v))
         .transpose()?;
-    let burst = last_of(text, prefix, b"rate-burst-bytes").map_or(Ok(0), |v| parse_bounded(v))?;
+    let burst = keys
+        .last(b"rate-burst-bytes")
+        .map_or(Ok(0), |v| parse_bounded(v))?;
     Ok((rate, burst_of(burst, rate)))
 }
 
 #[tactic(auto, unfolding(crate::specs::Directions::mtu_of))]
-fn mtu_of(text: &[u8], prefix: &[u8]) -> Result<Option<usize>, Refusal>
-    ensures { result ≡ mtu_of text.now prefix.now }
+fn mtu_of(keys: Keys) -> Result<Option<usize>, Refusal>
+    ensures { result ≡ mtu_of keys.entry.text.now keys.entry.prefix.now }
 {
-    let mtu = last_of(text, prefix, b"mtu")
-        .map(|v| parse_positive(v))
-        .transpose()?;
+    let mtu = keys.last(b"mtu").map(|v| parse_positive(v)).transpose()?;
     Ok(mtu.map(|most| most as usize))
 }
 
 #[tactic(auto, using(numbers::specs::Laws::Literals::zero_is), unfolding(crate::specs::Directions::limits_of))]
-pub fn limits_of(text: &[u8], prefix: &[u8]) -> Result<Limits, Refusal>
-    ensures { result ≡ limits_of text.now prefix.now }
+pub fn limits_of(keys: Keys) -> Result<Limits, Refusal>
+    ensures { result ≡ limits_of keys.entry.text.now keys.entry.prefix.now }
 {
-    let duplicate_p = last_of(text, prefix, b"duplicate").map_or(Ok(0.0), |v| parse_prob(v))?;
-    let (rate_bps, rate_burst_bytes) = rate_and_burst(text, prefix)?;
-    let mtu = mtu_of(text, prefix)?;
+    let duplicate_p = keys.last(b"duplicate").map_or(Ok(0.0), |v| parse_prob(v))?;
+    let (rate_bps, rate_burst_bytes) = rate_and_burst(keys)?;
+    let mtu = mtu_of(keys)?;
     Ok(Limits {
         duplicate_p,
         rate_bps,

@@ -2,7 +2,7 @@
 ghost use Rattle.std.specs.Prelude.{◌≡◌};
 ghost use Rattle.options.specs.Directions.{losses_of};
 
-use args::last_of;
+use crate::keys::Keys;
 use numbers::Refusal;
 use settings::Ge;
 use values::parse_prob;
@@ -14,12 +14,11 @@ pub struct Losses {
 }
 
 #[tactic(auto, using(numbers::specs::Laws::Literals::zero_is), unfolding(crate::specs::Directions::losses_of))]
-pub fn losses_of(text: &[u8], prefix: &[u8]) -> Result<Losses, Refusal>
-    ensures { result ≡ losses_of text.now prefix.now }
+pub fn losses_of(keys: Keys) -> Result<Losses, Refusal>
+    ensures { result ≡ losses_of keys.entry.text.now keys.entry.prefix.now }
 {
-    let loss = last_of(text, prefix, b"loss").map_or(Ok(0.0), |v| parse_prob(v))?;
-    let ge = last_of(text, prefix, b"ge")
-        .map(|v| Ge::parse(v))
-        .transpose()?;
+    // A closure, since a free function of another crate has no proof where it is passed by its name.
+    let loss = keys.last(b"loss").map_or(Ok(0.0), |v| parse_prob(v))?;
+    let ge = keys.last(b"ge").map(Ge::parse).transpose()?;
     Ok(Losses { loss, ge })
 }

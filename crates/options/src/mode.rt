@@ -13,6 +13,7 @@ pub enum Mode {
 }
 
 impl Mode {
+    // By `==`, since the proof does not close with a match of byte strings.
     pub fn parse(v: &[u8]) -> Result<Mode, Refusal>
         ensures { result ≡ parse_mode_of v.now }
     {

@@ -4,6 +4,7 @@ ghost use Rattle.options.specs.Parse.{any_high, unclosed_of, judged_text_of, con
 
 use crate::config::Config;
 use crate::direction::direction_of;
+use crate::keys::Keys;
 use crate::mode::other_mode;
 use crate::scalars::line_scalars;
 use numbers::Refusal;
@@ -21,8 +22,7 @@ fn any_high(s: &[u8]) -> bool
 fn unclosed(s: &[u8]) -> bool
     ensures { result ≡ unclosed_of s.now }
 {
-    let n = s.len();
-    n > 0 && s[n - 1] != 0
+    s.last().is_some_and(|b| *b != 0)
 }
 
 // Judges the text as bytes, and then its argument list.
@@ -49,8 +49,14 @@ fn config_of(text: &[u8]) -> Result<Config, Refusal>
 {
     judged_text(text)?;
     let line = line_scalars(text)?;
-    let c2s = direction_of(text, b"c2s-")?;
-    let s2c = direction_of(text, b"s2c-")?;
+    let c2s = direction_of(Keys {
+        text,
+        prefix: b"c2s-",
+    })?;
+    let s2c = direction_of(Keys {
+        text,
+        prefix: b"s2c-",
+    })?;
     other_mode(line.mode, &c2s)?;
     other_mode(line.mode, &s2c)?;
     Ok(Config {
@@ -64,7 +70,7 @@ fn config_of(text: &[u8]) -> Result<Config, Refusal>
     })
 }
 
-// The settings that a text of any bytes gives; of a text that is refused `Config::default`, beside the refusal.
+// The settings that a text of any bytes gives; beside a refusal `Config::default`, so that every answer has settings that refusal 29 lets through.
 #[tactic(auto, unfolding(crate::specs::Parse::parse_of))]
 pub fn parse_config(text: &[u8]) -> (Config, Result<(), Refusal>)
     ensures { result ≡ parse_of text.now }

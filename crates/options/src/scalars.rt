@@ -17,7 +17,7 @@ pub struct LineScalars {
     pub verbose: bool,
 }
 
-// Whether a value of verbose turns it on.
+// Whether a value of verbose turns it on. One by one, since the proof closes neither with a match of byte strings nor with `||`.
 fn says_yes(v: &[u8]) -> bool
     ensures { result ≡ yes_of v.now }
 {
@@ -38,7 +38,7 @@ fn says_yes(v: &[u8]) -> bool
 fn verbose_at(text: &[u8]) -> bool
     ensures { result ≡ verbose_of text.now }
 {
-    has_flag(text) || last_of(text, b"", b"verbose").is_some_and(|v| says_yes(v))
+    has_flag(text) || last_of(text, b"", b"verbose").is_some_and(says_yes)
 }
 
 // The mode and the seed.
@@ -46,7 +46,8 @@ fn verbose_at(text: &[u8]) -> bool
 fn mode_and_seed(text: &[u8]) -> Result<(Mode, u64), Refusal>
     ensures { result ≡ mode_and_seed_of text.now }
 {
-    let mode = last_of(text, b"", b"mode").map_or(Ok(Mode::Udp), |v| Mode::parse(v))?;
+    let mode = last_of(text, b"", b"mode").map_or(Ok(Mode::Udp), Mode::parse)?;
+    // A closure, since a free function of another crate has no proof where it is passed by its name.
     let seed = last_of(text, b"", b"seed").map_or(Ok(DEFAULT_SEED), |v| parse_u64(v))?;
     Ok((mode, seed))
 }

@@ -2,9 +2,9 @@
 ghost use Rattle.std.specs.Prelude.{◌≡◌};
 ghost use Rattle.options.specs.Directions.{schedules_of};
 
-use args::last_of;
+use crate::keys::Keys;
 use numbers::Refusal;
-use settings::{Entries, TcpKill, Window, entries_at};
+use settings::{Entries, TcpKill, Window};
 use values::parse_positive;
 
 #[derive(Clone, Copy)]
@@ -15,15 +15,15 @@ pub struct Schedules {
 }
 
 #[tactic(auto, unfolding(crate::specs::Directions::schedules_of))]
-pub fn schedules_of(text: &[u8], prefix: &[u8]) -> Result<Schedules, Refusal>
-    ensures { result ≡ schedules_of text.now prefix.now }
+pub fn schedules_of(keys: Keys) -> Result<Schedules, Refusal>
+    ensures { result ≡ schedules_of keys.entry.text.now keys.entry.prefix.now }
 {
-    let blackouts = entries_at(text, prefix, b"blackout")?;
-    let nat_change_every_ms = last_of(text, prefix, b"nat-change-every-ms").map_or(
-        Ok(0),
-        |v| parse_positive(v),
-    )?;
-    let tcp_kills = entries_at(text, prefix, b"kill")?;
+    let blackouts = keys.entries(b"blackout")?;
+    // A closure, since a free function of another crate has no proof where it is passed by its name.
+    let nat_change_every_ms = keys
+        .last(b"nat-change-every-ms")
+        .map_or(Ok(0), |v| parse_positive(v))?;
+    let tcp_kills = keys.entries(b"kill")?;
     Ok(Schedules {
         blackouts,
         nat_change_every_ms,

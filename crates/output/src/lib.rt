@@ -1,12 +1,12 @@
-// What the programs' words need beyond the standard library: floats by their bits, and answers that may be refusals. The
-// programs that are still in the older form write at once (`direct`) or collect first (`collected`).
+// What the programs' words need beyond the standard library: floats by their bits, counts, and answers that may be refusals.
 #![tactic(auto)]
 
 mod answered;
 mod bits;
-pub mod collected;
-mod direct;
+mod counts;
+mod said;
 
 pub use answered::Answered;
 pub use bits::Bits;
-pub use direct::{byte, count, decimal, end, flag, float, hex, text};
+pub use counts::Counts;
+pub use said::say;

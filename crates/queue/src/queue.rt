@@ -1,10 +1,10 @@
-// The state of a queue, which goes by value beside the lent tables.
+// The state of a queue, which goes by value beside the lent tables and comes back beside the answer: document 01 gives its calls this form.
 ghost use Rattle.std.specs.Prelude.{◌≡◌};
 ghost use Rattle.queue.specs.Calls.{len_of, is_empty_of};
 
 // `leaves` slots have a leaf in the tournament, and the first `opened` slots were used. The slots that copies have left lie in the table `free`,
 // the last one last.
-#[derive(Clone, Copy)]
+#[derive(Clone, Copy, Debug, PartialEq, Eq)]
 pub struct ImpairQueue {
     pub cap: u32,
     pub held: u32,

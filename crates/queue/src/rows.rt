@@ -1,4 +1,4 @@
-// What a slot has beside its key.
+// What a slot has beside its key. Document 01 has each field of a copy as a table of its own.
 ghost use Rattle.std.specs.Prelude.{◌≡◌, ◌<◌, ◌^◌, length};
 ghost use Rattle.queue.specs.Tables.{written_of};
 ghost use Rattle.queue.specs.Lent.{rows_in, rows_seen, SameRows};
@@ -6,7 +6,7 @@ ghost use Rattle.queue.specs.Refusals.{slot_width};
 
 use crate::store::SLOT_WIDTH;
 
-// The packet of which copies enter.
+// The packet of which copies enter; its bytes come beside it, since they go into the store.
 #[derive(Clone, Copy)]
 pub struct Packet {
     pub due_ms: f64,
@@ -16,7 +16,7 @@ pub struct Packet {
     pub duplicated: bool,
 }
 
-// The lent tables and the store, to be read.
+// The lent tables and the store, to be read. The tree's tables and the free slots are lent beside them, since each call writes others of the three.
 #[derive(Clone, Copy)]
 pub struct Rows<'a> {
     pub arrivals: &'a [f64],
@@ -26,7 +26,7 @@ pub struct Rows<'a> {
     pub store: &'a [u8],
 }
 
-// The lent tables and the store, to be written.
+// The lent tables and the store, to be written. A type beside `Rows`, so that a call that only reads asks for no more than that.
 #[derive(Drop)]
 pub struct RowsMut<'a> {
     pub arrivals: &'a mut [f64],

@@ -1,14 +1,18 @@
-// The queue's calls as values, and its answers as words, for the programs.
+// The queue's calls as values, the memory that they are lent, and the queue's answers as words, for the programs.
 #![tactic(auto)]
 
 mod answers;
 mod calls;
-mod lent;
 mod memory;
+mod part;
+mod table;
+mod tally;
 mod words;
 
-pub use answers::{Answer, Answered};
+pub use answers::Answer;
 pub use calls::Call;
-pub use lent::{create, make};
-pub use memory::{Lent, Tables};
-pub use words::say;
+pub use memory::{Lent, Memory};
+pub use part::Part;
+pub use table::Table;
+pub use tally::Tally;
+pub use words::Told;

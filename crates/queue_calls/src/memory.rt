@@ -1,105 +1,83 @@
 // The memory that a program lends to a queue.
-ghost use Rattle.std.specs.Prelude.{◌≤◌};
+use crate::part::Part;
+use crate::table::Table;
+use queue::{RowsMut, TreeMut};
+use std::alloc::{AllocError, Global};
 
-// The tables but for the store, with room for 256 copies. They have numbers: win 1, free 2, dues 3, seqs 4, arrivals 5, routes 6, copy ids 7, lengths 8 and
-// the store 9.
-#[derive(Clone, Copy)]
-pub struct Tables {
-    pub win: [u32; 256],
-    pub free: [u32; 256],
-    pub dues: [f64; 256],
-    pub seqs: [u64; 256],
-    pub arrivals: [f64; 256],
-    pub routes: [u64; 256],
-    pub ids: [u32; 256],
-    pub lengths: [u32; 256],
+// The tables, each as long as the others, and the store.
+// Document 01 has each field of an entry as a table of its own.
+#[derive(Drop)]
+pub struct Memory {
+    pub win: Vec<u32>,
+    pub free: Vec<u32>,
+    pub dues: Vec<f64>,
+    pub seqs: Vec<u64>,
+    pub arrivals: Vec<f64>,
+    pub routes: Vec<u64>,
+    pub copy_ids: Vec<u32>,
+    pub lengths: Vec<u32>,
+    pub store: Vec<u8>,
 }
 
-impl Tables {
-    // Zeros.
-    pub fn new() -> Tables {
-        Tables {
-            win: [0u32; 256],
-            free: [0u32; 256],
-            dues: [0.0f64; 256],
-            seqs: [0u64; 256],
-            arrivals: [0.0f64; 256],
-            routes: [0u64; 256],
-            ids: [0u32; 256],
-            lengths: [0u32; 256],
-        }
+// What a call is lent of it.
+#[derive(Drop)]
+pub struct Lent<'a> {
+    pub tree: TreeMut<'a>,
+    pub free: &'a mut [u32],
+    pub rows: RowsMut<'a>,
+}
+
+impl Memory {
+    // Zeros, so many in each table and in the store.
+    pub fn new(alloc: Global, entries: usize, bytes: usize) -> Result<Memory, AllocError> {
+        Ok(Memory {
+            win: vec![in alloc; 0; entries]?,
+            free: vec![in alloc; 0; entries]?,
+            dues: vec![in alloc; 0.0; entries]?,
+            seqs: vec![in alloc; 0; entries]?,
+            arrivals: vec![in alloc; 0.0; entries]?,
+            routes: vec![in alloc; 0; entries]?,
+            copy_ids: vec![in alloc; 0; entries]?,
+            lengths: vec![in alloc; 0; entries]?,
+            store: vec![in alloc; 0; bytes]?,
+        })
     }
-}
 
-// The part that a call is lent: from entry `start` of each table on so many entries, and of the store from byte `start` on 2,048 bytes for each. Table number
-// `short` lacks the last entry, the store its last byte; 0 stands for none.
-#[derive(Clone, Copy)]
-pub struct Lent {
-    pub start: u32,
-    pub entries: u32,
-    pub short: u32,
-}
-
-impl Lent {
-    // The first entries.
-    pub fn first(entries: u32) -> Lent {
+    // All of it.
+    pub fn lent(&mut self) -> Lent<'_> {
         Lent {
-            start: 0,
-            entries,
-            short: 0,
+            tree: TreeMut {
+                win: &mut self.win,
+                dues: &mut self.dues,
+                seqs: &mut self.seqs,
+            },
+            free: &mut self.free,
+            rows: RowsMut {
+                arrivals: &mut self.arrivals,
+                routes: &mut self.routes,
+                copy_ids: &mut self.copy_ids,
+                lengths: &mut self.lengths,
+                store: &mut self.store,
+            },
         }
     }
 
-    // Where the lent part of a table ends.
-    pub fn end(self, table: u32) -> usize
-        ensures { self.start ≤ result }
-    {
-        self.start as usize + lacking(self.entries as usize, self.short == table)
-    }
-
-    // Where the lent part of the store ends.
-    pub fn store_end(self) -> usize
-        ensures { self.start ≤ result }
-    {
-        self.start as usize + lacking(2048 * self.entries as usize, self.short == 9)
-    }
-
-    // The lent part of a table; none of it where it has fewer entries.
-    pub(crate) fn part<T>(self, t: &[T], table: u32) -> &[T] {
-        t.get(self.start as usize..self.end(table)).unwrap_or(&[])
-    }
-
-    pub(crate) fn part_mut<T>(self, t: &mut [T], table: u32) -> &mut [T] {
-        let start = self.start as usize;
-        let end = self.end(table);
-        if end <= t.len() {
-            &mut t[start..end]
-        } else {
-            &mut t[..0]
+    // A part of it.
+    pub fn part(&mut self, part: Part) -> Lent<'_> {
+        Lent {
+            tree: TreeMut {
+                win: part.of(Table::Win, &mut self.win),
+                dues: part.of(Table::Dues, &mut self.dues),
+                seqs: part.of(Table::Seqs, &mut self.seqs),
+            },
+            free: part.of(Table::Free, &mut self.free),
+            rows: RowsMut {
+                arrivals: part.of(Table::Arrivals, &mut self.arrivals),
+                routes: part.of(Table::Routes, &mut self.routes),
+                copy_ids: part.of(Table::CopyIds, &mut self.copy_ids),
+                lengths: part.of(Table::Lengths, &mut self.lengths),
+                store: part.of(Table::Store, &mut self.store),
+            },
         }
     }
-
-    // The same of the store.
-    pub(crate) fn bytes(self, store: &[u8]) -> &[u8] {
-        store
-            .get(self.start as usize..self.store_end())
-            .unwrap_or(&[])
-    }
-
-    pub(crate) fn bytes_mut(self, store: &mut [u8]) -> &mut [u8] {
-        let start = self.start as usize;
-        let end = self.store_end();
-        if end <= store.len() {
-            &mut store[start..end]
-        } else {
-            &mut store[..0]
-        }
-    }
-}
-
-// One less, where it is to be and can be.
-fn lacking(n: usize, one: bool) -> usize
-    ensures { result ≤ n }
-{
-    if one && 0 < n { n - 1 } else { n }
 }

@@ -1,38 +1,36 @@
 // Calls on states and memory that were altered: a refused call changes nothing, and no call changes what was not lent.
-use crate::tally::Tally;
+use crate::counts::Counts;
+use crate::lines::Lines;
 use crate::{chosen, judged, scatter, states};
-use queue_calls::Tables;
+use queue_calls::{Memory, Tally};
 use script::payload;
+use std::alloc::{AllocError, Global};
+use std::io;
+use std::io::Write;
 
-// The store is lent from here.
-pub fn run() {
-    let mut store = [0u8; 16400];
-    let mut bytes = [0u8; 4096];
-    let tally = counted(&mut store, &mut bytes);
-    tally.print();
+pub fn run<W: Write>(lines: &mut Lines<W>) -> io::Result<()> {
+    let tally = counted(lines.alloc)?;
+    writeln!(lines.out, "altered: {}", Counts(&tally))
 }
 
 // Makes 4,000 calls, each on what the last one left, after it was altered.
-fn counted(store: &mut [u8; 16400], bytes: &mut [u8; 4096]) -> Tally {
+fn counted(alloc: Global) -> Result<Tally, AllocError> {
     let mut queue = states::empty(0);
-    let mut tables = Tables::new();
-    let mut tally = Tally::new();
-    for turn in 0..4000u64 {
+    let mut memory = Memory::new(alloc, 256, 16400)?;
+    let mut bytes = vec![in alloc; 0; 4096]?;
+    let mut tally = Tally::new(alloc);
+    for turn in 0..4000 {
         let seed = draws::mix(turn, 1);
-        scatter::stored(store, seed);
-        let n = payload::fill(bytes, chosen::length_of(seed), seed);
-        let result = judged::make(
+        scatter::some(&mut memory, seed);
+        let filled = payload::fill(&mut bytes, chosen::length_of(seed), seed);
+        let (left, answer, is_kept) = judged::make(
+            chosen::call_of(seed, filled),
             chosen::queue_of(queue, seed),
-            scatter::some(tables, seed),
-            store,
-            chosen::lent_of(seed),
-            values::front(bytes, n),
-            chosen::call_of(seed),
+            &mut memory,
+            chosen::part_of(seed),
         );
-        queue = result.queue;
-        tables = result.tables;
-        let answer = result.answer;
-        tally = tally.with(answer, result.kept);
+        queue = left;
+        tally.add(answer, is_kept)?;
     }
-    tally
+    Ok(tally)
 }

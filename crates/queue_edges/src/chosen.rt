@@ -1,7 +1,7 @@
 // The state, the lent memory and the call of a seed.
 use crate::scatter;
 use queue::{ImpairQueue, Packet};
-use queue_calls::{Call, Lent};
+use queue_calls::{Call, Part, Table};
 
 // The state that the last call left, one whose fields can stand together, or one whose fields are drawn each by itself.
 pub fn queue_of(left: ImpairQueue, seed: u64) -> ImpairQueue {
@@ -27,8 +27,7 @@ fn in_keeping(cap: u32, seed: u64) -> ImpairQueue {
 
 // A number up to a bound, often the bound itself.
 fn up_to(n: u64, bound: u32) -> u32 {
-    let drawn = (n / 4 % 16) as u32;
-    if drawn < bound { drawn } else { bound }
+    bound.min((n / 4 % 16) as u32)
 }
 
 fn any(cap: u32, seed: u64) -> ImpairQueue {
@@ -48,8 +47,8 @@ fn field_of(n: u64, cap: u32) -> u32 {
         1 => u32::MAX,
         2 => 1048576,
         3 => 1048577,
-        4 => std::num::wrapping_add_u32(cap, 1),
-        5 => std::num::wrapping_sub_u32(cap, 1),
+        4 => cap.wrapping_add(1),
+        5 => cap.wrapping_sub(1),
         6..=9 => cap,
         _ => (n / 16 % 10) as u32,
     }
@@ -65,25 +64,32 @@ fn seq_of(n: u64) -> u64 {
 }
 
 // From entry 8 on mostly eight entries of each table; at times fewer, or one table that has one less.
-pub fn lent_of(seed: u64) -> Lent {
+pub fn part_of(seed: u64) -> Part {
     let n = draws::mix(seed, 36);
-    Lent {
+    Part {
         start: 8,
         entries: match n % 8 {
             0 => (n / 8 % 9) as u32,
             _ => 8,
         },
         short: match n / 128 % 4 {
-            0 => (n / 1024 % 10) as u32,
-            _ => 0,
+            0 => table_of(n / 1024),
+            _ => None,
         },
     }
 }
 
-pub fn call_of(seed: u64) -> Call {
+// A table, or seldom none.
+fn table_of(n: u64) -> Option<Table> {
+    let place = (n % 10).checked_sub(1)?;
+    Table::ALL.get(place as usize).copied()
+}
+
+// The bytes are those of a copy that is to enter.
+pub fn call_of(seed: u64, bytes: &[u8]) -> Call<'_> {
     let n = draws::mix(seed, 37);
     match n % 16 {
-        0..=6 => Call::Push(packet_of(seed)),
+        0..=6 => Call::Push(packet_of(seed), bytes),
         7..=11 => Call::Release(instant_of(n / 16)),
         12..=14 => Call::NextDue,
         _ => Call::Drain,

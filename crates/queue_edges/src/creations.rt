@@ -1,14 +1,29 @@
 // Creations: 24 comes before 23, and a refused one gives a queue of capacity 1.
-use crate::case;
+use crate::case::Case;
+use crate::lines::Lines;
+use crate::states;
+use queue_calls::Table;
+use std::io;
+use std::io::Write;
 
-pub fn capacities() {
-    case::create(b"0 over short memory", 9, 0);
-    case::create(b"0", 0, 0);
-    case::create(b"1", 0, 1);
-    case::create(b"2", 0, 2);
-    case::create(b"3", 0, 3);
-    case::create(b"1048576", 0, 1048576);
-    case::create(b"1048577", 0, 1048577);
-    case::create(b"2^32 + 1", 0, 4294967297);
-    case::create(b"2^64 - 1", 0, usize::MAX);
+pub fn capacities<W: Write>(lines: &mut Lines<W>) -> io::Result<()> {
+    let queue = states::empty(0);
+    let over_short = Case {
+        short: Some(Table::Store),
+        ..Case::new("0 over short memory", queue)
+    };
+    over_short.create(lines, 0)?;
+    for (name, cap) in [
+        ("0", 0),
+        ("1", 1),
+        ("2", 2),
+        ("3", 3),
+        ("1048576", 1048576),
+        ("1048577", 1048577),
+        ("2^32 + 1", 4294967297),
+        ("2^64 - 1", usize::MAX),
+    ] {
+        Case::new(name, queue).create(lines, cap)?;
+    }
+    Ok(())
 }

@@ -5,31 +5,41 @@
 mod altered;
 mod case;
 mod chosen;
+mod counts;
 mod creations;
 mod judged;
 mod limits;
+mod lines;
 mod marks;
-mod memory;
 mod order;
 mod parts;
 mod scatter;
 mod seqs_end;
+mod short;
 mod states;
-mod tally;
 mod twice;
 
-fn main() {
-    creations::capacities();
-    memory::tables_short();
-    order::pushes();
-    order::releases();
-    order::others();
-    limits::instants();
-    limits::copies();
-    limits::counters();
-    seqs_end::run();
-    twice::pushes();
-    parts::ends();
-    parts::many();
-    altered::run();
+use crate::lines::Lines;
+use std::io;
+use std::io::{BufWriter, Write};
+
+fn main(rt: HostRuntime) -> io::Result<()> {
+    let alloc = rt.alloc();
+    let out = BufWriter::new(alloc, io::writer(&rt))?;
+    let mut lines = Lines { alloc, out };
+    creations::capacities(&mut lines)?;
+    short::tables(&mut lines)?;
+    order::pushes(&mut lines)?;
+    order::releases(&mut lines)?;
+    order::questions(&mut lines)?;
+    order::drains(&mut lines)?;
+    limits::instants(&mut lines)?;
+    limits::copies(&mut lines)?;
+    limits::counters(&mut lines)?;
+    seqs_end::run(&mut lines)?;
+    twice::pushes(&mut lines)?;
+    parts::ends(&mut lines)?;
+    parts::many(&mut lines)?;
+    altered::run(&mut lines)?;
+    lines.out.flush()
 }

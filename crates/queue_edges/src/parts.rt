@@ -1,71 +1,57 @@
 // The bytes of a slot: those out of range are none.
+use crate::lines::Lines;
 use script::payload;
+use std::alloc::{AllocError, Global};
+use std::io;
+use std::io::Write;
 
-// A store of eight slots.
-pub fn ends() {
-    let mut space = [0u8; 16384];
-    payload::fill(&mut space, 16384, 1);
-    let store: &[u8] = &space;
-    print(store, 0, 0);
-    print(store, 0, 2048);
-    print(store, 0, 2049);
-    print(store, 7, 2048);
-    print(store, 8, 0);
-    print(store, 8, 1);
-    print(store, u32::MAX, 2048);
-    print(store, 0, usize::MAX);
-    print(values::front(store, 16383), 7, 2048);
-    print(values::front(store, 16383), 7, 2047);
-    print(values::front(store, 0), 0, 0);
-    print(values::front(store, 0), 0, 1);
-}
-
-// How many bytes there are, and their sum.
-fn print(store: &[u8], slot: u32, n: usize) {
-    output::text(b"payload store");
-    output::count(store.len() as u64);
-    output::text(b" slot");
-    output::count(slot as u64);
-    output::text(b" length");
-    output::count(n as u64);
-    output::text(b":");
-    let bytes = queue::payload(store, slot, n);
-    output::count(bytes.len() as u64);
-    output::hex(payload::sum(bytes));
-    output::end();
-}
-
-// Slots, lengths and stores that are drawn.
-pub fn many() {
-    let mut space = [0u8; 16384];
-    payload::fill(&mut space, 16384, 1);
-    output::text(b"payload drawn: wrong");
-    output::count(wrong(&space));
-    output::end();
-}
-
-// How many of 5,000 parts are not those that they should be.
-fn wrong(space: &[u8]) -> u64 {
-    let mut sum: u64 = 0;
-    for turn in 0..5000u64 {
-        let store = values::front(space, (draws::mix(turn, 1) % 16385) as usize);
-        let right = is_right(
-            store,
-            slot_of(draws::mix(turn, 2)),
-            length_of(draws::mix(turn, 3)),
-        );
-        sum = std::num::wrapping_add_u64(sum, !right as u64);
+// A store of eight slots, or the front of one.
+pub fn ends<W: Write>(lines: &mut Lines<W>) -> io::Result<()> {
+    let space = filled(lines.alloc)?;
+    for (size, slot, n) in [
+        (16384, 0, 0),
+        (16384, 0, 2048),
+        (16384, 0, 2049),
+        (16384, 7, 2048),
+        (16384, 8, 0),
+        (16384, 8, 1),
+        (16384, u32::MAX, 2048),
+        (16384, 0, usize::MAX),
+        (16383, 7, 2048),
+        (16383, 7, 2047),
+        (0, 0, 0),
+        (0, 0, 1),
+    ] {
+        let bytes = queue::payload(values::front(&space, size), slot, n);
+        write!(lines.out, "payload store {size} slot {slot} length {n}: ")?;
+        writeln!(lines.out, "{} {:016x}", bytes.len(), payload::sum(bytes))?;
     }
-    sum
+    Ok(())
 }
 
-fn is_right(store: &[u8], slot: u32, n: usize) -> bool {
+fn filled(alloc: Global) -> Result<Vec<u8>, AllocError> {
+    let mut space = vec![in alloc; 0; 16384]?;
+    payload::fill(&mut space, 16384, 1);
+    Ok(space)
+}
+
+// Of 5,000 slots, lengths and stores that are drawn, how many do not give the part that they should.
+pub fn many<W: Write>(lines: &mut Lines<W>) -> io::Result<()> {
+    let space = filled(lines.alloc)?;
+    let wrong = (0..5000u64).filter(|turn| !is_right(&space, *turn)).count();
+    writeln!(lines.out, "payload drawn: wrong {wrong}")
+}
+
+fn is_right(space: &[u8], turn: u64) -> bool {
+    let store = values::front(space, (draws::mix(turn, 1) % 16385) as usize);
+    let slot = slot_of(draws::mix(turn, 2));
+    let n = length_of(draws::mix(turn, 3));
     let bytes = queue::payload(store, slot, n);
+    if 2048 < n {
+        return bytes.is_empty();
+    }
     let start = slot as usize * 2048;
-    if 2048 < n || store.len() < start || store.len() - start < n {
-        return bytes.len() == 0;
-    }
-    bytes == values::part(store, start, n)
+    bytes == store.get(start..start + n).unwrap_or(&[])
 }
 
 fn slot_of(n: u64) -> u32 {

@@ -1,66 +1,49 @@
 // Memory is altered: all of it is drawn anew, or one entry of each table that the tree is read from.
-use queue_calls::Tables;
+use queue_calls::Memory;
 use script::payload;
 
-pub fn some(tables: Tables, seed: u64) -> Tables {
+pub fn some(memory: &mut Memory, seed: u64) {
     match draws::mix(seed, 10) % 4 {
-        0 => all(seed),
-        1 => one_of_keys(tables, seed),
-        _ => tables,
+        0 => all(memory, seed),
+        1 => one_of_keys(memory, seed),
+        _ => {}
     }
 }
 
-// The store, where all is drawn anew.
-pub fn stored(store: &mut [u8; 16400], seed: u64) {
-    if draws::mix(seed, 10) % 4 == 0 {
-        payload::fill(store, 16400, draws::mix(seed, 19));
+fn all(memory: &mut Memory, seed: u64) {
+    fill(&mut memory.win, draws::mix(seed, 11), word_of);
+    fill(&mut memory.free, draws::mix(seed, 12), word_of);
+    fill(&mut memory.dues, draws::mix(seed, 13), float_of);
+    fill(&mut memory.seqs, draws::mix(seed, 14), long_of);
+    fill(&mut memory.arrivals, draws::mix(seed, 15), float_of);
+    fill(&mut memory.routes, draws::mix(seed, 16), long_of);
+    fill(&mut memory.copy_ids, draws::mix(seed, 17), word_of);
+    fill(&mut memory.lengths, draws::mix(seed, 18), word_of);
+    payload::fill(&mut memory.store, u64::MAX, draws::mix(seed, 19));
+}
+
+// Every entry of a table is drawn.
+fn fill<T: Copy, F: Fn(u64) -> T>(table: &mut [T], seed: u64, entry_of: F)
+    requires { F.IsAlwaysCallable entry_of }
+{
+    for (i, entry) in table.iter_mut().enumerate() {
+        *entry = entry_of(draws::mix(seed, i as u64));
     }
 }
 
-fn all(seed: u64) -> Tables {
-    Tables {
-        win: words(draws::mix(seed, 11)),
-        free: words(draws::mix(seed, 12)),
-        dues: floats(draws::mix(seed, 13)),
-        seqs: longs(draws::mix(seed, 14)),
-        arrivals: floats(draws::mix(seed, 15)),
-        routes: longs(draws::mix(seed, 16)),
-        ids: words(draws::mix(seed, 17)),
-        lengths: words(draws::mix(seed, 18)),
-    }
-}
-
-fn one_of_keys(mut tables: Tables, seed: u64) -> Tables {
+fn one_of_keys(memory: &mut Memory, seed: u64) {
     let at = (draws::mix(seed, 20) % 24) as usize;
-    tables.win[at] = word_of(draws::mix(seed, 21));
-    tables.free[at] = word_of(draws::mix(seed, 22));
-    tables.dues[at] = float_of(draws::mix(seed, 23));
-    tables.seqs[at] = long_of(draws::mix(seed, 24));
-    tables
+    put(&mut memory.win, at, word_of(draws::mix(seed, 21)));
+    put(&mut memory.free, at, word_of(draws::mix(seed, 22)));
+    put(&mut memory.dues, at, float_of(draws::mix(seed, 23)));
+    put(&mut memory.seqs, at, long_of(draws::mix(seed, 24)));
 }
 
-fn words(seed: u64) -> [u32; 256] {
-    let mut t = [0u32; 256];
-    for i in 0..256usize {
-        t[i] = word_of(draws::mix(seed, i as u64));
+// Puts an entry at a place of a table that has it.
+fn put<T: Copy>(table: &mut [T], at: usize, entry: T) {
+    if let Some(place) = table.get_mut(at) {
+        *place = entry;
     }
-    t
-}
-
-fn longs(seed: u64) -> [u64; 256] {
-    let mut t = [0u64; 256];
-    for i in 0..256usize {
-        t[i] = long_of(draws::mix(seed, i as u64));
-    }
-    t
-}
-
-fn floats(seed: u64) -> [f64; 256] {
-    let mut t = [0.0f64; 256];
-    for i in 0..256usize {
-        t[i] = float_of(draws::mix(seed, i as u64));
-    }
-    t
 }
 
 // Most are small enough for a slot.
@@ -83,9 +66,9 @@ fn long_of(n: u64) -> u64 {
 
 pub fn float_of(n: u64) -> f64 {
     match n % 16 {
-        0 => 0.0 / 0.0,
-        1 => 1.0 / 0.0,
-        2 => -1.0 / 0.0,
+        0 => f64::NAN,
+        1 => f64::INFINITY,
+        2 => f64::NEG_INFINITY,
         3 => -0.0,
         4 => 9007199254740994.0,
         _ => numbers::float_of(n / 16 % 20) * 0.5,

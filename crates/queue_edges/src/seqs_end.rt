@@ -1,66 +1,61 @@
-// The last two seqs go to copies that are due at no instant: they are held like any other, and then every call is refused. A next seq that is set back shows
-// both.
+// The last two seqs go to copies that are due at no instant: then every call is refused, until the next seq is set back.
+use crate::lines::Lines;
+use crate::states;
 use crate::states::TOO_MANY;
-use crate::{case, states};
 use queue::{ImpairQueue, Packet};
-use queue_calls::{Call, Tables};
+use queue_calls::{Call, Memory};
+use std::io;
+use std::io::Write;
 
-// One call after the other over the same memory.
-pub fn run() {
-    let mut tables = Tables::new();
-    let mut store = [0u8; 16392];
-    let mut queue = states::empty(TOO_MANY - 2);
-    for step in 0..13u64 {
-        let answered = queue_calls::make(
-            before(queue, step),
-            tables,
-            &mut store,
-            states::two_lent(0),
-            b"abc",
-            call_at(step),
-        );
-        queue = answered.queue;
-        tables = answered.tables;
-        let answer = answered.answer;
-        case::print(b"last seqs", queue, answer);
-    }
+// The last instant.
+const LAST: f64 = 9007199254740992.0;
+
+// Due at no instant.
+const NEVER: Packet = Packet {
+    due_ms: f64::INFINITY,
+    arrival_ms: 0.0,
+    route: 7,
+    copy_id: 1,
+    duplicated: false,
+};
+
+pub fn run<W: Write>(lines: &mut Lines<W>) -> io::Result<()> {
+    let mut memory = Memory::new(lines.alloc, 2, 4096)?;
+    let push = Call::Push(NEVER, b"abc");
+    let release = Call::Release(LAST);
+    let calls = [
+        push,
+        Call::NextDue,
+        release,
+        push,
+        push,
+        release,
+        Call::NextDue,
+        Call::Drain,
+        Call::Len,
+    ];
+    let queue = made(lines, &mut memory, states::empty(TOO_MANY - 2), &calls)?;
+    let set_back = ImpairQueue {
+        next_seq: 5,
+        ..queue
+    };
+    let calls = [Call::NextDue, release, Call::Drain, Call::NextDue];
+    made(lines, &mut memory, set_back, &calls)?;
+    Ok(())
 }
 
-fn call_at(step: u64) -> Call {
-    match step {
-        0 => Call::Push(never()),
-        1 => Call::NextDue,
-        2 => Call::Release(9007199254740992.0),
-        3 => Call::Push(never()),
-        4 => Call::Push(never()),
-        5 => Call::Release(9007199254740992.0),
-        6 => Call::NextDue,
-        7 => Call::Drain,
-        8 => Call::Len,
-        9 => Call::NextDue,
-        10 => Call::Release(9007199254740992.0),
-        11 => Call::Drain,
-        _ => Call::NextDue,
+// Makes one call after the other over the same memory; the state after the last one.
+fn made<W: Write>(
+    lines: &mut Lines<W>,
+    memory: &mut Memory,
+    mut queue: ImpairQueue,
+    calls: &[Call<'_>],
+) -> io::Result<ImpairQueue> {
+    for call in calls {
+        let (left, answer) = call.make(queue, &mut memory.lent());
+        queue = left;
+        write!(lines.out, "last seqs")?;
+        lines.end(answer, memory, queue)?;
     }
-}
-
-// The state that a step is handed: the next seq is set back before step 9.
-fn before(queue: ImpairQueue, step: u64) -> ImpairQueue {
-    ImpairQueue {
-        cap: queue.cap,
-        held: queue.held,
-        next_seq: if step == 9 { 5 } else { queue.next_seq },
-        leaves: queue.leaves,
-        opened: queue.opened,
-    }
-}
-
-fn never() -> Packet {
-    Packet {
-        due_ms: states::infinity(),
-        arrival_ms: 0.0,
-        route: 7,
-        copy_id: 1,
-        duplicated: false,
-    }
+    Ok(queue)
 }

@@ -1,6 +1,6 @@
-// States of a queue of capacity 2, memory for it, and floats.
+// States of a queue of capacity 2, and the part of memory that it is lent.
 use queue::ImpairQueue;
-use queue_calls::Lent;
+use queue_calls::{Part, Table};
 
 // The least number that no next seq may have.
 pub const TOO_MANY: u64 = 0x1000_0000_0000_0000;
@@ -18,11 +18,16 @@ pub fn full(next_seq: u64) -> ImpairQueue {
 // More copies are said to be held than slots were used.
 pub fn altered(next_seq: u64) -> ImpairQueue {
     ImpairQueue {
-        cap: 2,
-        held: 2,
-        next_seq,
-        leaves: 2,
         opened: 1,
+        ..full(next_seq)
+    }
+}
+
+// Both copies have left.
+pub fn left(next_seq: u64) -> ImpairQueue {
+    ImpairQueue {
+        held: 0,
+        ..full(next_seq)
     }
 }
 
@@ -37,19 +42,11 @@ pub fn with_held(held: u32, next_seq: u64) -> ImpairQueue {
     }
 }
 
-// Memory for two copies; table number `short` has one entry less.
-pub fn two_lent(short: u32) -> Lent {
-    Lent {
-        start: 8,
+// Room for two copies; the table `short` has one entry less.
+pub fn two(short: Option<Table>) -> Part {
+    Part {
+        start: 0,
         entries: 2,
         short,
     }
-}
-
-pub fn infinity() -> f64 {
-    1.0 / 0.0
-}
-
-pub fn nan() -> f64 {
-    0.0 / 0.0
 }

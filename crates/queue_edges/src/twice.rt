@@ -1,93 +1,77 @@
 // Pushes of a packet that is duplicated: a line for each case has the answer (the first copy's seq and how many copies entered), the state after it (capacity,
 // held and next seq), and of slots 0 and 1 the copy ids, which were 7, and the seqs, which were 0.
+use crate::lines::{Lines, State};
 use crate::states;
 use crate::states::TOO_MANY;
-use numbers::Refusal;
-use queue::{Entered, ImpairQueue, Packet, RowsMut, TreeMut};
+use output::Answered;
+use queue::{Entered, ImpairQueue, Packet};
+use queue_calls::{Lent, Memory};
+use std::io::Write;
+use std::{fmt, io};
 
-pub fn pushes() {
-    push(b"empty", states::empty(5), 0, 1);
-    push(b"one free", states::with_held(1, 5), 0, 1);
-    push(b"full", states::full(5), 0, 1);
-    push(b"next seq 2^60 - 1", states::empty(TOO_MANY - 1), 0, 1);
-    push(b"next seq 2^60", states::empty(TOO_MANY), 0, 1);
-    push(b"first slot out of range", left(), 0, 9);
-    push(b"second slot out of range", left(), 9, 0);
+const PACKET: Packet = Packet {
+    due_ms: 8.0,
+    arrival_ms: 7.0,
+    route: 9,
+    copy_id: 0,
+    duplicated: true,
+};
+
+pub fn pushes<W: Write>(lines: &mut Lines<W>) -> io::Result<()> {
+    for (name, queue, free) in [
+        ("empty", states::empty(5), [0, 1]),
+        ("one free", states::with_held(1, 5), [0, 1]),
+        ("full", states::full(5), [0, 1]),
+        ("next seq 2^60 - 1", states::empty(TOO_MANY - 1), [0, 1]),
+        ("next seq 2^60", states::empty(TOO_MANY), [0, 1]),
+        ("first slot out of range", states::left(5), [0, 9]),
+        ("second slot out of range", states::left(5), [9, 0]),
+    ] {
+        push(lines, name, queue, &free)?;
+    }
+    Ok(())
 }
 
-// Both copies have left: the slot of the last one is used first.
-fn left() -> ImpairQueue {
-    ImpairQueue {
-        cap: 2,
-        held: 0,
-        next_seq: 5,
-        leaves: 2,
-        opened: 2,
+// The slots that copies have left are those of `free`, the last one last: it is used first.
+fn push<W: Write>(
+    lines: &mut Lines<W>,
+    name: &str,
+    queue: ImpairQueue,
+    free: &[u32],
+) -> io::Result<()> {
+    let mut memory = Memory::new(lines.alloc, 2, 4096)?;
+    memory.copy_ids.fill(7);
+    let Lent {
+        mut tree,
+        mut rows,
+        ..
+    } = memory.lent();
+    let (left, pushed) = queue.push(&mut tree, free, &mut rows, PACKET, b"abc");
+    let answer = Answered(pushed.map(Copies));
+    write!(lines.out, "push both {name}: {answer}; {}", State(left))?;
+    let (ids, seqs) = (Each(&memory.copy_ids), Each(&memory.seqs));
+    writeln!(lines.out, "; ids{ids}; seqs{seqs}")
+}
+
+// How the copies of a packet entered.
+#[derive(Clone, Copy)]
+struct Copies(Entered);
+
+impl fmt::Display for Copies {
+    fn fmt<W: fmt::Write>(&self, f: &mut fmt::Formatter<W>) -> fmt::Result {
+        write!(f, "entered {} {}", self.0.seq, self.0.copies)
     }
 }
 
-// The slots that copies have left are these two.
-fn push(name: &[u8], queue: ImpairQueue, first_left: u32, last_left: u32) {
-    let mut win = [0u32; 2];
-    let mut dues = [0.0f64; 2];
-    let mut seqs = [0u64; 2];
-    let mut arrivals = [0.0f64; 2];
-    let mut routes = [0u64; 2];
-    let mut ids = [7u32; 2];
-    let mut lengths = [0u32; 2];
-    let mut store = [0u8; 4096];
-    let mut tree = TreeMut {
-        win: &mut win,
-        dues: &mut dues,
-        seqs: &mut seqs,
-    };
-    let mut rows = RowsMut {
-        arrivals: &mut arrivals,
-        routes: &mut routes,
-        copy_ids: &mut ids,
-        lengths: &mut lengths,
-        store: &mut store,
-    };
-    let packet = Packet {
-        due_ms: 8.0,
-        arrival_ms: 7.0,
-        route: 9,
-        copy_id: 0,
-        duplicated: true,
-    };
-    let (after, pushed) = queue.push(
-        &mut tree,
-        &[first_left, last_left],
-        &mut rows,
-        packet,
-        b"abc",
-    );
-    output::text(b"push both ");
-    output::text(name);
-    say(pushed);
-    narrow(b"; queue", after.cap, after.held);
-    output::count(after.next_seq);
-    narrow(b"; ids", ids[0], ids[1]);
-    pair(b"; seqs", seqs[0], seqs[1]);
-    output::end();
-}
+// The entries of a table, each behind a blank.
+#[derive(Clone, Copy)]
+struct Each<'a, T>(&'a [T]);
 
-fn say(answer: Result<Entered, Refusal>) {
-    match answer {
-        Ok(entered) => pair(b": entered", entered.seq, entered.copies as u64),
-        Err(refusal) => {
-            output::text(b": refused");
-            output::count(refusal.number() as u64);
+impl<T: fmt::Display> fmt::Display for Each<'_, T> {
+    fn fmt<W: fmt::Write>(&self, f: &mut fmt::Formatter<W>) -> fmt::Result {
+        for entry in self.0 {
+            write!(f, " {entry}")?;
         }
+        Ok(())
     }
-}
-
-fn narrow(name: &[u8], a: u32, b: u32) {
-    pair(name, a as u64, b as u64);
-}
-
-fn pair(name: &[u8], a: u64, b: u64) {
-    output::text(name);
-    output::count(a);
-    output::count(b);
 }

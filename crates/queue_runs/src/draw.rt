@@ -1,25 +1,58 @@
-// Calls that are drawn at random. The route, the arrival, the copy id, the length and the bytes of a copy follow from one seed, so that a list which has the
-// seed has them all.
+// Calls that are drawn at random.
 use draws::Rng;
 use queue::Packet;
-use queue_calls::Call;
 
-// A call, the seed of its copy, and the generator after it.
+// A copy; all but its due follows from the seed.
 #[derive(Clone, Copy)]
-pub struct Drawn {
-    pub rng: Rng,
-    pub call: Call,
+pub struct Seeded {
+    pub due_ms: f64,
     pub seed: u64,
 }
 
-pub fn next(rng: Rng, turn: u64) -> Drawn {
-    let (rng, kind) = rng.next_u64();
-    let (rng, time) = rng.next_u64();
-    let (rng, seed) = rng.next_u64();
-    Drawn {
-        rng,
-        call: call_of(kind / 0x1_0000_0000 % 1000, pushes_at(turn), time, seed),
-        seed,
+// A call as it is drawn.
+#[derive(Clone, Copy)]
+pub enum Drawn {
+    Push(Seeded),
+    Release(f64),
+    NextDue,
+    Len,
+    Drain,
+}
+
+// What the calls are drawn from.
+#[derive(Clone, Copy)]
+pub struct Source {
+    rng: Rng,
+}
+
+impl Source {
+    pub fn new(seed: u64) -> Self {
+        Source {
+            rng: Rng::new(seed),
+        }
+    }
+
+    fn number(&mut self) -> u64 {
+        let (rng, number) = self.rng.next_u64();
+        self.rng = rng;
+        number
+    }
+
+    // The call of a turn.
+    pub fn call(&mut self, turn: u64) -> Drawn {
+        let kind = self.number() / 0x1_0000_0000 % 1000;
+        let time = self.number() / 0x1_0000_0000;
+        let seed = self.number();
+        match kind {
+            _ if kind < pushes_at(turn) => Drawn::Push(Seeded {
+                due_ms: due_of(time),
+                seed,
+            }),
+            0..=899 => Drawn::Release(instant_of(time)),
+            900..=949 => Drawn::NextDue,
+            950..=994 => Drawn::Len,
+            _ => Drawn::Drain,
+        }
     }
 }
 
@@ -32,29 +65,13 @@ fn pushes_at(turn: u64) -> u64 {
     }
 }
 
-fn call_of(kind: u64, pushes: u64, time: u64, seed: u64) -> Call {
-    if kind < pushes {
-        return Call::Push(packet_of(due_of(time / 0x1_0000_0000), seed));
-    }
-    if kind < 900 {
-        return Call::Release(instant_of(time / 0x1_0000_0000));
-    }
-    if kind < 950 {
-        return Call::NextDue;
-    }
-    if kind < 995 {
-        return Call::Len;
-    }
-    Call::Drain
-}
-
 // A due from -2 to 17.5, so that many tie; or 0 of either sign, or seldom an infinity of either sign.
 fn due_of(n: u64) -> f64 {
     match n % 128 {
         0..=9 => 0.0,
         10..=19 => -0.0,
-        20 => 1.0 / 0.0,
-        21..=24 => -1.0 / 0.0,
+        20 => f64::INFINITY,
+        21..=24 => f64::NEG_INFINITY,
         _ => numbers::float_of(n / 128 % 40) * 0.5 - 2.0,
     }
 }
@@ -67,25 +84,26 @@ fn instant_of(n: u64) -> f64 {
     }
 }
 
-// The packet of a seed, with this due.
-pub fn packet_of(due_ms: f64, seed: u64) -> Packet {
-    Packet {
-        due_ms,
-        arrival_ms: numbers::float_of(draws::mix(seed, 1) % 1000) * 0.25,
-        route: draws::mix(seed, 2),
-        copy_id: (draws::mix(seed, 3) % 0x1_0000_0000) as u32,
-        duplicated: false,
+impl Seeded {
+    pub fn packet(self) -> Packet {
+        Packet {
+            due_ms: self.due_ms,
+            arrival_ms: numbers::float_of(draws::mix(self.seed, 1) % 1000) * 0.25,
+            route: draws::mix(self.seed, 2),
+            copy_id: (draws::mix(self.seed, 3) % 0x1_0000_0000) as u32,
+            duplicated: false,
+        }
     }
-}
 
-// How many bytes the copy of a seed has: most have few, since they are made one by one.
-pub fn length_of(seed: u64) -> u64 {
-    let n = draws::mix(seed, 4);
-    match n % 16 {
-        0 => 0,
-        1 => 2047,
-        2 => 2048,
-        3 => n / 16 % 2049,
-        _ => n / 16 % 64,
+    // How many bytes the copy has: most have few, since they are made one by one.
+    pub fn length(self) -> u64 {
+        let n = draws::mix(self.seed, 4);
+        match n % 16 {
+            0 => 0,
+            1 => 2047,
+            2 => 2048,
+            3 => n / 16 % 2049,
+            _ => n / 16 % 64,
+        }
     }
 }

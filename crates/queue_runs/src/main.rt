@@ -2,17 +2,21 @@
 // there were, how many of them were answered as entered, released, none due, full and drained, and how many answers were apart.
 #![tactic(auto)]
 
+mod counts;
 mod draw;
 mod list;
 mod runs;
-mod tally;
 
-fn main() {
-    runs::run(1);
-    runs::run(2);
-    runs::run(15);
-    runs::run(16);
-    runs::run(17);
-    runs::run(33);
-    runs::run(64);
+use crate::counts::Counts;
+use std::io;
+use std::io::{BufWriter, Write};
+
+fn main(rt: HostRuntime) -> io::Result<()> {
+    let alloc = rt.alloc();
+    let mut out = BufWriter::new(alloc, io::writer(&rt))?;
+    for cap in [1, 2, 15, 16, 17, 33, 64] {
+        let tally = runs::compared(alloc, cap)?;
+        writeln!(out, "capacity {cap}: {}", Counts(&tally))?;
+    }
+    out.flush()
 }

@@ -10,6 +10,9 @@ use std::io::{BufRead, BufReader, Read, Write};
 // The answer to a line that asks for nothing.
 pub const BAD_LINE: &str = "bad line";
 
+// The longest line in bytes that asks for something without an option text.
+pub const LONGEST: usize = 65536;
+
 // Puts the next line into `line`, without its line feed, and says whether there is one.
 pub fn next_line<R: BufRead>(input: &mut R, line: &mut Vec<u8>) -> io::Result<bool>
     ensures line { IfOk result (λ there. IfSome (R.remaining input.old) (λ bytes. (there ≡ has_line bytes) × (line.new.items ≡ line_of bytes))) }
@@ -51,4 +54,37 @@ pub fn answer_lines<R: Read + Drop, W: Write, F: FnMut(&[u8], &mut W) -> io::Res
         }
     }
     out.flush()
+}
+
+// Has each line answered, by "bad line" where the closure says that it is no call, and ends each answer with a line feed.
+pub fn answer_calls<R: Read + Drop, W: Write, F: FnMut(&[u8], &mut W) -> io::Result<bool>>(
+    alloc: Global,
+    input: R,
+    out: &mut W,
+    mut answer: F,
+) -> io::Result<()>
+    requires { (state : F) (line : _) (out : _) → F.pre state line out }
+{
+    answer_lines(
+        alloc,
+        input,
+        out,
+        |line, out|
+            requires { (state : F) (line : _) (out : _) → F.pre state line out }
+        { answer_call(line, out, &mut answer) },
+    )
+}
+
+// Answers one line; the call has a function of its own, since within the closure above the borrow checker's part of the proof fails.
+fn answer_call<W: Write, F: FnMut(&[u8], &mut W) -> io::Result<bool>>(
+    line: &[u8],
+    out: &mut W,
+    answer: &mut F,
+) -> io::Result<()>
+    requires { (state : F) (line : _) (out : _) → F.pre state line out }
+{
+    if !answer(line, out)? {
+        out.write_all(BAD_LINE.as_bytes())?;
+    }
+    writeln!(out)
 }

@@ -4,11 +4,7 @@ ghost use Rattle.std.specs.Float.{binary64};
 ghost use Rattle.script.specs.Patterns.{pattern_of};
 
 use crate::hex;
-
-// The bit of the sign, and the bits of an infinity without it; those of a NaN are more.
-const SIGN: u64 = 0x8000_0000_0000_0000;
-
-const INFINITE: u64 = 0x7ff0_0000_0000_0000;
+use std::num;
 
 // The pattern that 16 digits stand for.
 #[tactic(auto, using(crate::proofs::Reading::more, crate::proofs::Reading::fits), unfolding(crate::specs::Patterns::pattern_from))]
@@ -25,20 +21,10 @@ pub fn pattern_of(digits: &[u8]) -> Option<u64>
     Some(bits)
 }
 
-// The float of a pattern: a NaN for each pattern of one.
-pub fn float_of_bits(bits: u64) -> f64
-    ensures { result ≡ from_bits binary64 bits }
-{
-    if bits % SIGN > INFINITE {
-        f64::NAN
-    } else {
-        f64::from_bits(bits)
-    }
-}
-
-// The float whose pattern a word is.
+// The float whose pattern a word is: a NaN for each pattern of one.
 pub fn float_of(word: &[u8]) -> Option<f64>
     ensures { result ≡ option_map (from_bits binary64) (pattern_of word.now) }
 {
-    pattern_of(word).map(float_of_bits)
+    let bits = pattern_of(word)?;
+    Some(num::f64_from_bits_with_nan(bits))
 }

@@ -4,10 +4,11 @@ ghost use Rattle.numbers.specs.declared.refusal.Refusal.{Refusal as Refused};
 ghost use Rattle.args.specs.Arguments.{values_of};
 ghost use Rattle.settings.specs.Lists.{no_entries, with_entry, with_value, entries_of};
 
-use args::Cursor;
+use args::Values;
 use numbers::{MAX_ENTRIES, Refusal};
 
-// What stands in a list: it is read from the value of an option, and one of them fills what is not counted.
+// What stands in a list: it is read from the value of an option, and one of them fills what is not counted. That one is no `Default`, since the source gives
+// windows and kills none.
 pub trait Entry: Copy {
     ghost parsed_of: { List ℕ → Result Self Refused };
 
@@ -20,7 +21,7 @@ pub trait Entry: Copy {
         ensures { result ≡ parsed_of v.now };
 }
 
-// What was gathered: the first `count` entries.
+// What was gathered: the first `count` entries. Document 01 has such a list as an array of 128 with a count.
 #[derive(Clone, Copy)]
 pub struct Entries<E> {
     pub entries: [E; MAX_ENTRIES],
@@ -64,13 +65,8 @@ pub fn entries_at<E: Entry>(text: &[u8], prefix: &[u8], name: &[u8]) -> Result<E
     ensures { result ≡ entries_of E.parsed_of E.empty_of (values_of (prefix.now ++ name.now) text.now) }
 {
     let mut entries = Entries::none();
-    let mut cursor = Cursor::new();
-    loop {
-        let (next, value) = cursor.next_of(text, prefix, name);
-        match value {
-            None => return Ok(entries),
-            Some(v) => entries = entries.with_value(v)?,
-        }
-        cursor = next;
+    for value in Values::new(text, prefix, name) {
+        entries = entries.with_value(value)?;
     }
+    Ok(entries)
 }

@@ -29,14 +29,10 @@ impl Ge {
     pub fn parse(v: &[u8]) -> Result<Ge, Refusal>
         ensures { result ≡ parse_ge_of v.now }
     {
-        match three_parts(v) {
-            None => Err(Refusal::GeParts),
-            Some((p, r, h)) => {
-                let p = parse_prob(p)?;
-                let r = parse_prob(r)?;
-                let h = parse_prob(h)?;
-                Ge::of(p, r, h)
-            }
-        }
+        let (p, r, h) = three_parts(v).ok_or(Refusal::GeParts)?;
+        let p = parse_prob(p)?;
+        let r = parse_prob(r)?;
+        let h = parse_prob(h)?;
+        Ge::of(p, r, h)
     }
 }

@@ -30,7 +30,7 @@ pub fn no_kill() -> TcpKill
     }
 }
 
-// The style that a kill's third part names.
+// The style that a kill's third part names. By `==`, since the proof does not close with a match of byte strings.
 fn parse_style(v: &[u8]) -> Result<KillStyle, Refusal>
     ensures { result ≡ parse_style_of v.now }
 {
@@ -54,13 +54,9 @@ impl Entry for TcpKill {
 
     // START:END:STYLE.
     fn parse(v: &[u8]) -> Result<TcpKill, Refusal> {
-        match three_parts(v) {
-            None => Err(Refusal::KillParts),
-            Some((start, end, style)) => {
-                let window = Window::between(start, end)?;
-                let style = parse_style(style)?;
-                Ok(TcpKill { window, style })
-            }
-        }
+        let (start, end, style) = three_parts(v).ok_or(Refusal::KillParts)?;
+        let window = Window::between(start, end)?;
+        let style = parse_style(style)?;
+        Ok(TcpKill { window, style })
     }
 }

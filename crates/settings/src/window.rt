@@ -56,9 +56,7 @@ impl Entry for Window {
 
     // START:END.
     fn parse(v: &[u8]) -> Result<Window, Refusal> {
-        match split_once(v, b':') {
-            None => Err(Refusal::Colon),
-            Some((start, end)) => Window::between(start, end),
-        }
+        let (start, end) = split_once(v, b':').ok_or(Refusal::Colon)?;
+        Window::between(start, end)
     }
 }

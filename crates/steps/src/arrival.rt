@@ -8,7 +8,7 @@ use crate::{bucket, burst, chance, due, mtu};
 use draws::Rng;
 use options::DirectionConfig;
 
-// What decides an arrival beside the settings, and is changed by it.
+// What decides an arrival beside the settings, and is changed by it. The engine has these fields one by one, as document 01 lists them.
 #[derive(Clone, Copy)]
 pub struct ArrivalState {
     pub rng: Rng,
@@ -45,8 +45,7 @@ fn scheduled(c: &DirectionConfig, s: ArrivalState, now_ms: f64, len: usize) -> A
     ensures { result ≡ scheduled_of c.now s now_ms len }
 {
     let rate = c.rate_bps;
-    let burst = c.rate_burst_bytes;
-    let tokens = bucket::charged(s.tokens, s.last_refill_ms, rate, burst, now_ms, len);
+    let tokens = bucket::charged(c, s, now_ms, len);
     let (rng, extra_dup) = chance::tried(s.rng, c.duplicate_p);
     let (rng, delayed_ms) = due::jittered(rng, now_ms + c.delay_ms, c.jitter_ms);
     let (rng, reordered) = chance::tried(rng, c.reorder_p);

@@ -4,7 +4,11 @@ ghost use Rattle.numbers.specs.Whole.{whole};
 ghost use Rattle.numbers.specs.Credit.{refilled_of};
 ghost use Rattle.steps.specs.Bucket.{bucket_capacity_of, charged_of, last_refill_of, is_deferred_of};
 
-// The credit of a full bucket.
+use crate::arrival::ArrivalState;
+use options::DirectionConfig;
+
+// The credit of a full bucket, by the rule that the text has for a burst: the source has it in both places. A closure, since a free function of another crate has
+// no proof where it is passed by its name.
 #[tactic(auto, unfolding(crate::specs::Bucket::bucket_capacity_of, crate::specs::Bucket::rate_capacity_of))]
 pub fn bucket_capacity(rate: Option<u64>, rate_burst_bytes: u64) -> u64
     ensures { result ≡ bucket_capacity_of rate rate_burst_bytes }
@@ -28,22 +32,15 @@ fn refilled(tokens: f64, elapsed_ms: f64, bps: u64, capacity: u64) -> f64
 
 // The credit after the refill and the packet's charge.
 #[tactic(auto, using(numbers::specs::Laws::Literals::zero_is), unfolding(crate::specs::Bucket::charged_of))]
-pub(crate) fn charged(
-    tokens: f64,
-    last_refill_ms: f64,
-    rate: Option<u64>,
-    rate_burst_bytes: u64,
-    now_ms: f64,
-    len: usize,
-) -> f64
-    ensures { result ≡ charged_of tokens last_refill_ms rate rate_burst_bytes now_ms len }
+pub(crate) fn charged(c: &DirectionConfig, s: ArrivalState, now_ms: f64, len: usize) -> f64
+    ensures { result ≡ charged_of s.tokens s.last_refill_ms c.now.rate_bps c.now.rate_burst_bytes now_ms len }
 {
-    match rate {
-        None => tokens,
+    match c.rate_bps {
+        None => s.tokens,
         Some(bps) => {
-            let elapsed_ms = numbers::maximum(now_ms - last_refill_ms, 0.0);
-            let capacity = bucket_capacity(rate, rate_burst_bytes);
-            refilled(tokens, elapsed_ms, bps, capacity) - numbers::float_of(len as u64)
+            let elapsed_ms = numbers::maximum(now_ms - s.last_refill_ms, 0.0);
+            let capacity = bucket_capacity(c.rate_bps, c.rate_burst_bytes);
+            refilled(s.tokens, elapsed_ms, bps, capacity) - numbers::float_of(len as u64)
         }
     }
 }

@@ -30,7 +30,7 @@ fn flip_chance(bad: bool, p: f64, r: f64) -> f64
 fn turned(bad: bool, flip: bool) -> bool
     ensures { result ≡ cond flip (not bad) bad }
 {
-    if flip { !bad } else { bad }
+    bad != flip
 }
 
 // In the bad state a draw against h says whether the packet is lost.

@@ -1,4 +1,4 @@
-// A draw against a probability.
+// A draw against a probability. The jitter and the loss in a bad state are drawn in the same way; one function of the three, with a closure, is no shorter.
 ghost use Rattle.std.specs.Prelude.{◌≡◌};
 ghost use Rattle.steps.specs.Chance.{chance_of};
 

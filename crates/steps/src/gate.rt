@@ -25,13 +25,6 @@ impl From<KillStyle> for Gate {
     }
 }
 
-#[tactic(auto, unfolding(crate::specs::Gate::is_rst_of))]
-fn is_rst(style: KillStyle) -> bool
-    ensures { result ≡ is_rst_of style }
-{
-    matches!(style, KillStyle::Rst)
-}
-
 // What the first kill says whose window holds the instant. The loop breaks with its index: document 01 gives this place that form.
 #[tactic(auto, unfolding(crate::specs::Gate::kill_gate_of))]
 pub fn kill_gate(kills: &[TcpKill], count: usize, now_ms: f64) -> Gate
@@ -50,13 +43,13 @@ pub fn kill_gate(kills: &[TcpKill], count: usize, now_ms: f64) -> Gate
     }
 }
 
-// Whether the instant lies in the window of some counted kill that resets, or of some that holds bytes back.
-#[tactic(auto, unfolding(crate::specs::Gate::kill_now_of))]
-pub fn kill_now(kills: &[TcpKill], count: usize, rst: bool, now_ms: f64) -> bool
-    ensures { result ≡ kill_now_of rst (take count kills.now) now_ms }
+// Whether the instant lies in the window of some counted kill of the style.
+#[tactic(auto, unfolding(crate::specs::Gate::kill_now_of, crate::specs::Gate::is_rst_of))]
+pub fn kill_now(kills: &[TcpKill], count: usize, style: KillStyle, now_ms: f64) -> bool
+    ensures { result ≡ kill_now_of (is_rst_of style) (take count kills.now) now_ms }
 {
     kills
         .iter()
         .take(count)
-        .any(|k| is_rst(k.style) == rst && k.window.contains(now_ms))
+        .any(|k| k.style == style && k.window.contains(now_ms))
 }

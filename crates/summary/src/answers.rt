@@ -4,7 +4,7 @@ use script::{lines, words};
 use std::io;
 use std::io::Write;
 
-// Answers that say nothing about a whole run are not shown.
+// Shows an answer line that is about a whole run, and nothing for any other.
 pub fn show<W: Write>(out: &mut W, number: u64, line: &[u8]) -> io::Result<()> {
     if line == lines::BAD_LINE.as_bytes() {
         return refusals::show_bad_line(out, number);

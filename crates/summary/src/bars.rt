@@ -4,7 +4,7 @@ use std::fmt;
 // The longest bar.
 const COLUMNS: u64 = 40;
 
-// How many packets a sign of a bar stands for at most, where the fullest bucket has so many.
+// The packets that a sign has to stand for, so that the bar of the fullest bucket is no longer than the longest.
 pub fn packets_per_sign(fullest: u64) -> u64 {
     fullest.div_ceil(COLUMNS)
 }

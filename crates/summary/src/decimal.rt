@@ -5,9 +5,6 @@ use std::fmt;
 // The columns of a time: those of a count, and four more for the point and three places behind it.
 const COLUMNS: usize = 16;
 
-// The bit of the sign.
-const SIGN: u64 = 0x8000_0000_0000_0000;
-
 // A time with three places behind the point, its unit in the column where a count has it.
 #[derive(Clone, Copy)]
 pub struct Thousandths(pub f64);
@@ -17,34 +14,32 @@ impl fmt::Display for Thousandths {
         if self.0.is_nan() {
             return write!(f, "{:>COLUMNS$}", "not a number");
         }
-        let bits = self.0.to_bits();
+        let is_negative = self.0.is_sign_negative();
         if self.0.is_infinite() {
-            let word = if bits < SIGN { "infinite" } else { "-infinite" };
+            let word = if is_negative { "-infinite" } else { "infinite" };
             return write!(f, "{word:>COLUMNS$}");
         }
         let count = BEFORE + 3;
         let number = Decimal {
-            is_negative: bits >= SIGN,
-            digits: Digits::of(bits % SIGN).rounded(count),
+            is_negative,
+            digits: Digits::of(self.0.to_bits()).rounded(count),
             count,
         };
-        for _ in number.len()..COLUMNS {
-            f.write_str(" ")?;
-        }
-        write!(f, "{number}")
+        let blanks = COLUMNS.saturating_sub(number.len());
+        write!(f, "{:blanks$}{number}", "")
     }
 }
 
-// The float of these bits in at most fifteen digits: those that an option's value was written with.
+// The float of these bits, which may be any, in at most fifteen digits: those that an option's value was written with.
 #[derive(Clone, Copy)]
 pub struct FifteenDigits(pub u64);
 
 impl fmt::Display for FifteenDigits {
     fn fmt<W: fmt::Write>(&self, f: &mut fmt::Formatter<W>) -> fmt::Result {
-        let exact = Digits::of(self.0 % SIGN);
+        let exact = Digits::of(self.0);
         let digits = exact.rounded(exact.fifteen());
         let number = Decimal {
-            is_negative: self.0 >= SIGN,
+            is_negative: self.0 >> 63 == 1,
             digits,
             count: digits.used(),
         };
@@ -86,16 +81,18 @@ impl fmt::Display for Decimal {
         if self.is_negative {
             f.write_str("-")?;
         }
-        for digit in self.whole() {
-            write!(f, "{digit}")?;
-        }
+        say_digits(f, self.whole())?;
         let places = self.digits.behind_point(self.count);
         if !places.is_empty() {
             f.write_str(".")?;
         }
-        for digit in places {
-            write!(f, "{digit}")?;
-        }
-        Ok(())
+        say_digits(f, places)
     }
+}
+
+fn say_digits<W: fmt::Write>(f: &mut fmt::Formatter<W>, digits: &[u8]) -> fmt::Result {
+    for digit in digits {
+        write!(f, "{digit}")?;
+    }
+    Ok(())
 }

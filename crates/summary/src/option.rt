@@ -4,7 +4,7 @@ use script::{patterns, words};
 use std::io::Write;
 use std::{fmt, io};
 
-// What a setting is for.
+// What a setting is for: both directions until a bracket opens; not that of engine_words, which has no word for both and would bring in the engine.
 #[derive(Clone, Copy, PartialEq, Eq)]
 pub enum Direction {
     Both,
@@ -13,12 +13,11 @@ pub enum Direction {
 }
 
 impl Direction {
-    // The direction of a setting behind so many opening brackets.
-    pub fn of(opened: usize) -> Self {
-        match opened {
-            0 => Direction::Both,
-            1 => Direction::ClientToServer,
-            _ => Direction::ServerToClient,
+    // The direction behind one opening bracket more.
+    pub fn opened(self) -> Self {
+        match self {
+            Direction::Both => Direction::ClientToServer,
+            Direction::ClientToServer | Direction::ServerToClient => Direction::ServerToClient,
         }
     }
 }
@@ -41,7 +40,7 @@ enum Form {
     Decimal,
 }
 
-// A setting of one direction that is not set is left out.
+// Shows a setting as an argument, but not one that is unset for a direction.
 pub fn show<W: Write>(out: &mut W, direction: Direction, word: &[u8]) -> io::Result<()> {
     let (name, value) = words::split_at_byte(word, b'=');
     let Some(value) = value else {

@@ -4,7 +4,7 @@ use script::words;
 use std::io;
 use std::io::Write;
 
-// `rest` is the number of the refusal.
+// Shows a refusal, whose number `rest` is, with its reason in words.
 pub fn show<W: Write>(out: &mut W, number: u64, rest: &[u8]) -> io::Result<()> {
     let told = words::whole_of(rest).unwrap_or(0);
     write!(out, "line {number}, refused {told}: ")?;

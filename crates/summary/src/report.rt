@@ -22,7 +22,7 @@ const RANGES: [&str; 12] = [
     "5000 and more",
 ];
 
-// `rest` is what stands behind the line's first word.
+// Shows the report whose numbers `rest` has.
 pub fn show<W: Write>(out: &mut W, number: u64, rest: &[u8]) -> io::Result<()> {
     match Report::read(rest) {
         Some(report) => writeln!(out, "line {number}, report\n\n{report}"),

@@ -1,5 +1,6 @@
 // The numbers of a report line.
-use script::{patterns, words};
+use script::patterns;
+use script::words::Words;
 
 // Packets and their bytes.
 #[derive(Clone, Copy)]
@@ -46,94 +47,82 @@ pub struct Report {
 impl Report {
     // What stands behind the first word of a report line, in the order of its words.
     pub fn read(line: &[u8]) -> Option<Self> {
-        let mut words = Words { left: Some(line) };
+        let mut words = Words::new(line);
         let report = Report {
-            received: words.traffic()?,
-            sent: words.traffic()?,
-            dropped: words.drops()?,
-            overflowed: words.count()?,
-            duplicated: words.count()?,
-            reordered: words.count()?,
-            deferred: words.count()?,
-            changes_of_address: words.count()?,
-            reset: words.count()?,
-            latencies: words.latencies()?,
-            held: words.count_named(b"held")?,
-            torn: words.count_named(b"torn")?,
+            received: Traffic::read(&mut words)?,
+            sent: Traffic::read(&mut words)?,
+            dropped: Drops::read(&mut words)?,
+            overflowed: count(&mut words)?,
+            duplicated: count(&mut words)?,
+            reordered: count(&mut words)?,
+            deferred: count(&mut words)?,
+            changes_of_address: count(&mut words)?,
+            reset: count(&mut words)?,
+            latencies: Latencies::read(&mut words)?,
+            held: count_named(&mut words, b"held")?,
+            torn: count_named(&mut words, b"torn")?,
         };
-        if words.left.is_none() {
-            Some(report)
-        } else {
-            None
-        }
+        if words.is_empty() { Some(report) } else { None }
     }
 }
 
-// The words of a line that are not read yet, if there are any.
-#[derive(Drop)]
-struct Words<'a> {
-    left: Option<&'a [u8]>,
-}
-
-impl<'a> Words<'a> {
-    fn next(&mut self) -> Option<&'a [u8]> {
-        let (word, left) = words::split_word(self.left?);
-        self.left = left;
-        Some(word)
-    }
-
-    // A count below 2^60: no report has another, and so no sum of counts wraps.
-    fn count(&mut self) -> Option<u64> {
-        words::whole_of(self.next()?).filter(|count| numbers::is_counter(*count))
-    }
-
-    fn count_named(&mut self, name: &[u8]) -> Option<u64> {
-        if self.next()? == name {
-            self.count()
-        } else {
-            None
-        }
-    }
-
-    // A time by its bits, or the word nan.
-    fn time(&mut self) -> Option<f64> {
-        match self.next()? {
-            b"nan" => Some(f64::NAN),
-            word => patterns::float_of(word),
-        }
-    }
-
-    fn traffic(&mut self) -> Option<Traffic> {
+impl Traffic {
+    fn read(words: &mut Words) -> Option<Self> {
         Some(Traffic {
-            packets: self.count()?,
-            bytes: self.count()?,
+            packets: count(words)?,
+            bytes: count(words)?,
         })
     }
+}
 
-    fn drops(&mut self) -> Option<Drops> {
+impl Drops {
+    fn read(words: &mut Words) -> Option<Self> {
         Some(Drops {
-            random: self.count()?,
-            burst: self.count()?,
-            mtu: self.count()?,
-            blackout: self.count()?,
+            random: count(words)?,
+            burst: count(words)?,
+            mtu: count(words)?,
+            blackout: count(words)?,
         })
     }
+}
 
-    fn latencies(&mut self) -> Option<Latencies> {
+impl Latencies {
+    fn read(words: &mut Words) -> Option<Self> {
         Some(Latencies {
-            count: self.count()?,
-            buckets: self.buckets()?,
-            sum: self.time()?,
-            least: self.time()?,
-            greatest: self.time()?,
+            count: count(words)?,
+            buckets: buckets(words)?,
+            sum: time(words)?,
+            least: time(words)?,
+            greatest: time(words)?,
         })
     }
+}
 
-    fn buckets(&mut self) -> Option<[u64; 12]> {
-        let mut buckets = [0; 12];
-        for bucket in buckets.iter_mut() {
-            *bucket = self.count()?;
-        }
-        Some(buckets)
+// A count below 2^60: no report has another, and so no sum of counts wraps.
+fn count(words: &mut Words) -> Option<u64> {
+    words.whole().filter(|count| numbers::is_counter(*count))
+}
+
+fn count_named(words: &mut Words, name: &[u8]) -> Option<u64> {
+    if words.next()? == name {
+        count(words)
+    } else {
+        None
     }
+}
+
+// A time by its bits, or the word nan.
+fn time(words: &mut Words) -> Option<f64> {
+    match words.next()? {
+        b"nan" => Some(f64::NAN),
+        word => patterns::float_of(word),
+    }
+}
+
+fn buckets(words: &mut Words) -> Option<[u64; 12]> {
+    let mut buckets = [0; 12];
+    for bucket in buckets.iter_mut() {
+        *bucket = count(words)?;
+    }
+    Some(buckets)
 }

@@ -5,16 +5,28 @@ use script::words;
 use std::io;
 use std::io::Write;
 
-// `rest` is what stands behind the line's first word: each of its words is a setting, and a bracket opens a direction.
+// Shows the settings that `rest` has, each of its words as an argument; a bracket opens the settings of a direction.
 pub fn show<W: Write>(out: &mut W, number: u64, rest: &[u8]) -> io::Result<()> {
     writeln!(out, "line {number}, taken:")?;
-    let mut opened = 0usize;
+    let mut direction = Direction::Both;
     for word in rest.split_inclusive(|byte| *byte == b' ') {
-        let direction = Direction::of(opened.saturating_add(usize::from(word.starts_with(b"["))));
-        option::show(out, direction, bare(word))?;
-        opened = opened.saturating_add(word.iter().filter(|byte| **byte == b'[').count());
+        let own = if word.starts_with(b"[") {
+            direction.opened()
+        } else {
+            direction
+        };
+        option::show(out, own, bare(word))?;
+        direction = behind(direction, word);
     }
     writeln!(out)
+}
+
+// The direction behind the opening brackets of a word.
+fn behind(direction: Direction, word: &[u8]) -> Direction {
+    word.iter().fold(direction, |direction, byte| match byte {
+        b'[' => direction.opened(),
+        _ => direction,
+    })
 }
 
 // The word without its brackets and the blank behind it.

@@ -2,7 +2,8 @@
 ghost use Rattle.std.specs.Prelude.{◌≡◌};
 ghost use Rattle.tables.specs.Slots.{filled_of, part_of};
 
-// The bytes at the front of a slot become `bytes`. Nothing changes where they are more than the slot has or lie outside the store.
+// The bytes at the front of a slot become `bytes`. Nothing changes where they are more than the slot has or lie outside the store. By a
+// test, since the proof does not close with `get_mut`.
 #[tactic(auto, using(std::proofs::lemmas::Slice::overwrites), unfolding(crate::specs::Slots::filled_of))]
 pub fn fill(store: &mut [u8], width: u32, slot: u32, bytes: &[u8])
     ensures { store.new ≡ filled_of width store.old slot bytes.now }

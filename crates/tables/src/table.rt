@@ -8,7 +8,7 @@ pub fn get<T: Copy>(table: &[T], i: usize, other: T) -> T
     table.get(i).copied().unwrap_or(other)
 }
 
-// The value at an index becomes `v`. Nothing changes past the end.
+// The value at an index becomes `v`. Nothing changes past the end. By a test, since the proof does not close with `get_mut`.
 pub fn set<T: Copy>(table: &mut [T], i: usize, v: T)
     ensures { table.new ≡ set table.old i v }
 {

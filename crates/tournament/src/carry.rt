@@ -14,6 +14,7 @@ impl TreeMut<'_> {
         ensures made { tree_in leaves self.new ≡ tree leaves (carried_of self.old.dues.now self.old.seqs.now leaves (leaves + slot) self.old.win.now (leaves + slot) slot) self.old.dues.now self.old.seqs.now }
         ensures same { SameTables self.old self.new }
     {
+        // A `while`, since each turn needs the node and the best so far, and writes the table that it reads.
         let mut node = leaves + slot as usize;
         let mut best = (slot, self.shared().due(slot));
         while 1 < node {

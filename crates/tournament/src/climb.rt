@@ -15,6 +15,7 @@ impl TreeMut<'_> {
         ensures same { SameTables self.old self.new }
     {
         let due = self.shared().due(slot);
+        // A `while`, since each turn writes the table that the next one reads, and may be the last.
         let mut node = leaves + slot as usize;
         while 1 < node {
             let tree = self.shared();

@@ -25,6 +25,7 @@ impl TreeMut<'_> {
         ensures made { tree_in to self.new ≡ tree to self.old.win.now (free_dues from to self.old.dues.now) (free_seqs from to self.old.seqs.now) }
         ensures same { SameTables self.old self.new }
     {
+        // By index, since either table may be the shorter one, and the two loops over parts that fit would be longer.
         for i in from..to {
             tables::set(self.dues, i, FREE_DUE);
             tables::set(self.seqs, i, FREE_SEQ);

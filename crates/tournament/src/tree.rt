@@ -1,4 +1,5 @@
 // The lent tables of a tree: `win` has the winners at its nodes, `dues` and `seqs` the keys of its slots.
+// Document 01 has each field of a copy as a table of its own.
 ghost use Rattle.std.specs.Prelude.{◌≡◌, get_or};
 ghost use Rattle.numbers.specs.Whole.{whole};
 
@@ -10,7 +11,7 @@ pub struct Tree<'a> {
     pub seqs: &'a [u64],
 }
 
-// The tables, to be written.
+// The tables, to be written. A type beside `Tree`, so that a call that only reads asks for no more than that.
 #[derive(Drop)]
 pub struct TreeMut<'a> {
     pub win: &'a mut [u32],

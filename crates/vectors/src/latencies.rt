@@ -1,5 +1,5 @@
 // Latencies around every bound of the buckets (just below, at, just above), zeros, negatives, the smallest, the largest, infinities, NaN.
-const FINITE: [f64; 44] = [
+pub const LATENCIES_MS: [f64; 47] = [
     0.9999999999999999,
     1.0,
     1.0000000000000002,
@@ -44,16 +44,7 @@ const FINITE: [f64; 44] = [
     4999.0,
     1.7976931348623157e+308,
     -1.7976931348623157e+308,
+    f64::INFINITY,
+    f64::NEG_INFINITY,
+    f64::NAN,
 ];
-
-pub fn at(i: usize) -> f64 {
-    if i < 44 {
-        FINITE[i]
-    } else if i == 44 {
-        1.0 / 0.0
-    } else if i == 45 {
-        -1.0 / 0.0
-    } else {
-        0.0 / 0.0
-    }
-}

@@ -4,6 +4,9 @@
 mod accounts_run;
 mod document;
 mod floats;
+mod fold;
+mod generators;
+mod held;
 mod latencies;
 mod oracle_accounts;
 mod oracle_draws;
@@ -13,22 +16,27 @@ mod records;
 mod refusals;
 mod samples;
 
-fn main() {
-    papers::splitmix64();
-    papers::xorshift64star();
-    document::seed_one();
-    document::instants();
-    document::buckets();
-    refusals::lengths();
-    refusals::sends();
-    refusals::deliveries();
-    refusals::merges();
-    oracle_draws::draws();
-    oracle_draws::extremes();
-    oracle_accounts::runs();
-    oracle_accounts::pairs();
-    oracle_accounts::full_records();
-    oracle_accounts::totals();
-    oracle_accounts::long_runs();
-    oracle_windows::windows();
+use std::io;
+use std::io::{BufWriter, Write};
+
+fn main(rt: HostRuntime) -> io::Result<()> {
+    let mut out = BufWriter::new(rt.alloc(), io::writer(&rt))?;
+    papers::splitmix64(&mut out)?;
+    papers::xorshift64star(&mut out)?;
+    document::seed_one(&mut out)?;
+    document::instants(&mut out)?;
+    document::buckets(&mut out)?;
+    refusals::lengths(&mut out)?;
+    refusals::sends(&mut out)?;
+    refusals::deliveries(&mut out)?;
+    refusals::merges(&mut out)?;
+    oracle_draws::draws(&mut out)?;
+    oracle_draws::extremes(&mut out)?;
+    oracle_accounts::runs(&mut out)?;
+    oracle_accounts::pairs(&mut out)?;
+    oracle_accounts::full_records(&mut out)?;
+    oracle_accounts::totals(&mut out)?;
+    oracle_accounts::long_runs(&mut out)?;
+    oracle_windows::windows(&mut out)?;
+    out.flush()
 }

@@ -1,157 +1,132 @@
 // The lines that oracle/src/accounts.rs prints of the Rust source.
-ghost use Rattle.std.specs.Prelude.{◌<◌};
-
-use crate::{accounts_run, floats, latencies, records, samples};
+use crate::held::{HELD, Held};
+use crate::latencies::LATENCIES_MS;
+use crate::records::{Sends, Stats};
+use crate::{accounts_run, samples};
 use accounts::{DirectionStats, SendAccountant};
+use output::{Answered, Bits};
+use std::io;
+use std::io::Write;
 
-// The records of the run from the first latency to the last, and of the one from the last to the first.
-#[derive(Clone, Copy)]
-struct Both {
-    forwards: Records,
-    backwards: Records,
-}
-
-#[derive(Clone, Copy)]
+// The records that a latency is counted on.
+#[derive(Clone, Copy, Default)]
 struct Records {
     accountant: SendAccountant,
     stats: DirectionStats,
 }
 
-// Each latency on records that have none yet, and all of them one after the other from the first and from the last, a NaN.
-pub fn runs() {
-    let mut runs = Both {
-        forwards: Records {
-            accountant: SendAccountant::default(),
-            stats: samples::some_stats(0, 0),
-        },
-        backwards: Records {
-            accountant: samples::some_sends(0, 0),
-            stats: DirectionStats::default(),
-        },
-    };
-    for k in 0..47 {
-        runs = turn(runs, k);
+impl Records {
+    fn count<W: Write>(&mut self, out: &mut W, len: usize, latency_ms: f64) -> io::Result<()> {
+        send(out, &mut self.accountant, len, latency_ms)?;
+        deliver(out, &mut self.stats, latency_ms)
     }
 }
 
-fn turn(runs: Both, k: usize) -> Both
-    requires { k < 47 }
-{
-    let fresh = Records {
+// Each latency on records that have none yet, and all of them one after the other from the first and from the last, a NaN.
+pub fn runs<W: Write>(out: &mut W) -> io::Result<()> {
+    let mut forwards = Records {
         accountant: SendAccountant::default(),
+        stats: samples::some_stats(0, HELD[0]),
+    };
+    let mut backwards = Records {
+        accountant: samples::some_sends(0, HELD[0]),
         stats: DirectionStats::default(),
     };
-    counted(fresh, 100, latencies::at(k));
-    let forwards = runs.forwards;
-    let backwards = runs.backwards;
-    Both {
-        forwards: counted(forwards, k, latencies::at(k)),
-        backwards: counted(backwards, 2048 - k, latencies::at(46 - k)),
+    let opposite = LATENCIES_MS.iter().rev();
+    for ((k, first_ms), last_ms) in LATENCIES_MS.iter().enumerate().zip(opposite) {
+        Records::default().count(out, 100, *first_ms)?;
+        forwards.count(out, k, *first_ms)?;
+        backwards.count(out, 2048 - k, *last_ms)?;
     }
-}
-
-// The latency on both records.
-fn counted(r: Records, len: usize, latency_ms: f64) -> Records {
-    let a = r.accountant;
-    let s = r.stats;
-    Records {
-        accountant: send(a, len, latency_ms),
-        stats: deliver(s, latency_ms),
-    }
+    Ok(())
 }
 
 // Every pair of eight floats, as what the records hold, and as that and the latency.
-pub fn pairs() {
-    for k in 0..64 {
-        states(k / 8, floats::edge(k));
-        merges(k / 8, k);
+pub fn pairs<W: Write>(out: &mut W) -> io::Result<()> {
+    for held in HELD {
+        pairs_with(out, held)?;
     }
+    Ok(())
 }
 
-// The latency on records that hold the floats at i, with and without latencies before it.
-fn states(i: usize, latency_ms: f64) {
-    sent(0, i, latency_ms);
-    sent(5, i, latency_ms);
-    delivered(0, i, latency_ms);
-    delivered(3, i, latency_ms);
+fn pairs_with<W: Write>(out: &mut W, held: Held) -> io::Result<()> {
+    for other in HELD {
+        states(out, held, other.min_ms)?;
+        merges(out, held, other)?;
+    }
+    Ok(())
 }
 
-fn sent(count: u64, i: usize, latency_ms: f64) {
-    send(samples::some_sends(count, i), 7, latency_ms);
+// The latency on records that hold the floats, with and without latencies before it.
+fn states<W: Write>(out: &mut W, held: Held, latency_ms: f64) -> io::Result<()> {
+    send(out, &mut samples::some_sends(0, held), 7, latency_ms)?;
+    send(out, &mut samples::some_sends(5, held), 7, latency_ms)?;
+    deliver(out, &mut samples::some_stats(0, held), latency_ms)?;
+    deliver(out, &mut samples::some_stats(3, held), latency_ms)
 }
 
-fn delivered(count: u64, i: usize, latency_ms: f64) {
-    deliver(samples::some_stats(count, i), latency_ms);
+// A target and an accountant that hold these floats, each with and without latencies.
+fn merges<W: Write>(out: &mut W, target: Held, sent: Held) -> io::Result<()> {
+    for (count, sends) in [(0, 0), (0, 5), (3, 0), (3, 5)] {
+        merge(
+            out,
+            samples::some_stats(count, target),
+            samples::some_sends(sends, sent),
+        )?;
+    }
+    Ok(())
 }
 
-// A target that holds the floats at i and an accountant that holds those at j, each with and without latencies.
-fn merges(i: usize, j: usize) {
-    merged(0, i, 0, j);
-    merged(0, i, 5, j);
-    merged(3, i, 0, j);
-    merged(3, i, 5, j);
+// Records whose counters are all the greatest.
+pub fn full_records<W: Write>(out: &mut W) -> io::Result<()> {
+    send(out, &mut samples::full_sends(), 2048, 0.5)?;
+    deliver(out, &mut samples::full_stats(), 0.5)?;
+    merge(out, samples::full_stats(), samples::full_sends())
 }
 
-fn merged(count: u64, i: usize, sends: u64, j: usize) {
-    merge(samples::some_stats(count, i), samples::some_sends(sends, j));
+pub fn totals<W: Write>(out: &mut W) -> io::Result<()> {
+    total(out, &DirectionStats::default())?;
+    total(out, &samples::some_stats(0, HELD[0]))?;
+    total(out, &samples::full_stats())
 }
 
-// The largest counters that refusal 25 lets through.
-pub fn full_records() {
-    send(samples::full_sends(), 2048, 0.5);
-    deliver(samples::full_stats(), 0.5);
-    merge(samples::full_stats(), samples::full_sends());
+pub fn long_runs<W: Write>(out: &mut W) -> io::Result<()> {
+    for seed in 1..=8 {
+        accounts_run::long_run(out, seed)?;
+    }
+    Ok(())
 }
 
-pub fn totals() {
-    total(DirectionStats::default());
-    total(samples::some_stats(0, 0));
-    total(samples::full_stats());
-}
-
-pub fn long_runs() {
-    accounts_run::long_run(1);
-    accounts_run::long_run(2);
-    accounts_run::long_run(3);
-    accounts_run::long_run(4);
-    accounts_run::long_run(5);
-    accounts_run::long_run(6);
-    accounts_run::long_run(7);
-    accounts_run::long_run(8);
-}
-
-// Sends a packet, prints the accountant, and gives it back.
-fn send(a: SendAccountant, len: usize, latency_ms: f64) -> SendAccountant {
+// Sends a packet, and prints the accountant.
+fn send<W: Write>(
+    out: &mut W,
+    a: &mut SendAccountant,
+    len: usize,
+    latency_ms: f64,
+) -> io::Result<()> {
     let (after, _) = a.on_send(len, latency_ms);
-    output::text(b"on_send");
-    output::count(len as u64);
-    output::float(latency_ms);
-    records::accountant(after);
-    after
+    *a = after;
+    write!(out, "on_send {len} {}", Bits(latency_ms))?;
+    writeln!(out, "{}", Sends(a))
 }
 
-// Counts a delivered packet, prints the statistics, and gives them back.
-fn deliver(s: DirectionStats, latency_ms: f64) -> DirectionStats {
+// Counts a delivered packet, and prints the statistics.
+fn deliver<W: Write>(out: &mut W, s: &mut DirectionStats, latency_ms: f64) -> io::Result<()> {
     let (after, _) = s.record_delivered(latency_ms);
-    output::text(b"record_delivered");
-    output::float(latency_ms);
-    records::stats(after);
-    after
+    *s = after;
+    write!(out, "record_delivered {}", Bits(latency_ms))?;
+    writeln!(out, "{}", Stats(s))
 }
 
 // Merges, and prints the target. Of two zeros as maximum Rust may take either, so both get the target's.
-fn merge(s: DirectionStats, mut a: SendAccountant) {
-    let mut l = a.latency;
-    if s.latency_max_ms == 0.0 && l.max_ms == 0.0 {
-        l.max_ms = s.latency_max_ms;
+fn merge<W: Write>(out: &mut W, s: DirectionStats, mut a: SendAccountant) -> io::Result<()> {
+    if s.latency_max_ms == 0.0 && a.latency.max_ms == 0.0 {
+        a.latency.max_ms = s.latency_max_ms;
     }
-    a.latency = l;
     let (merged, _) = a.merge_into(s);
-    output::text(b"merge_into");
-    records::stats(merged);
+    writeln!(out, "merge_into{}", Stats(&merged))
 }
 
-fn total(s: DirectionStats) {
-    output::text(b"total_dropped");
-    records::total(s.total_dropped());
+fn total<W: Write>(out: &mut W, s: &DirectionStats) -> io::Result<()> {
+    writeln!(out, "total_dropped {}", Answered(s.total_dropped()))
 }

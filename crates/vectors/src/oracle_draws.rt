@@ -1,117 +1,115 @@
 // The lines that oracle/src/draws.rs prints of the Rust source.
-use crate::floats;
+use crate::floats::FLOATS;
+use crate::fold::Fold;
+use crate::generators;
 use draws::Rng;
+use output::Bits;
+use std::io::Write;
+use std::{io, num};
 
-pub fn draws() {
-    of_seed(0);
-    of_seed(1);
-    of_seed(2);
-    of_seed(1234567);
-    of_seed(0xFFFF_FFFF);
-    of_seed(0x1_0000_0000);
-    of_seed(0x20_0000_0000_0000);
-    of_seed(0x61C8_8646_80B5_83EB);
-    of_seed(0x7FFF_FFFF_FFFF_FFFF);
-    of_seed(0x8000_0000_0000_0000);
-    of_seed(0x9E37_79B9_7F4A_7C15);
-    of_seed(0xFFFF_FFFF_FFFF_FFFF);
+const SEEDS: [u64; 12] = [
+    0,
+    1,
+    2,
+    1234567,
+    0xFFFF_FFFF,
+    0x1_0000_0000,
+    0x20_0000_0000_0000,
+    0x61C8_8646_80B5_83EB,
+    0x7FFF_FFFF_FFFF_FFFF,
+    0x8000_0000_0000_0000,
+    0x9E37_79B9_7F4A_7C15,
+    0xFFFF_FFFF_FFFF_FFFF,
+];
+
+const SALTS: [u64; 6] = [
+    0,
+    1,
+    2,
+    0xFFFF_FFFF,
+    0x8000_0000_0000_0000,
+    0xFFFF_FFFF_FFFF_FFFF,
+];
+
+pub fn draws<W: Write>(out: &mut W) -> io::Result<()> {
+    for seed in SEEDS {
+        of_seed(out, seed)?;
+    }
+    Ok(())
 }
 
 // The first outputs and draws of a seed, its direction seeds, and a long run.
-fn of_seed(seed: u64) {
-    output::text(b"next_u64");
-    output::hex(seed);
-    outputs(outputs(Rng::new(seed)));
-    output::text(b"\nnext_f64");
-    output::hex(seed);
-    fractions(fractions(Rng::new(seed)));
-    output::text(b"\ndirection_seed");
-    output::hex(seed);
-    direction_seeds(seed);
-    output::text(b"\nlong_run");
-    output::hex(seed);
-    output::hex(long_run(seed));
-    output::end();
+fn of_seed<W: Write>(out: &mut W, seed: u64) -> io::Result<()> {
+    let outputs: [u64; 8] = generators::first(Rng::new(seed), |rng| rng.next_u64());
+    line(out, "next_u64", seed, &outputs)?;
+    let draws: [u64; 8] = generators::first(Rng::new(seed), |rng| {
+        let (after, draw) = rng.next_f64();
+        (after, num::f64_to_bits_with_nan(draw))
+    });
+    line(out, "next_f64", seed, &draws)?;
+    line(
+        out,
+        "direction_seed",
+        seed,
+        &SALTS.map(|salt| draws::direction_seed(seed, salt)),
+    )?;
+    line(out, "long_run", seed, &[long_run(seed)])
 }
 
-// Prints four outputs, and gives the next generator.
-fn outputs(rng: Rng) -> Rng {
-    output(output(output(output(rng))))
+// A line of numbers in hexadecimal.
+fn line<W: Write>(out: &mut W, name: &str, seed: u64, numbers: &[u64]) -> io::Result<()> {
+    write!(out, "{name} {seed:016x}")?;
+    for number in numbers {
+        write!(out, " {number:016x}")?;
+    }
+    writeln!(out)
 }
 
-fn output(rng: Rng) -> Rng {
-    let (after, value) = rng.next_u64();
-    output::hex(value);
-    after
-}
-
-// Prints four draws, and gives the next generator.
-fn fractions(rng: Rng) -> Rng {
-    fraction(fraction(fraction(fraction(rng))))
-}
-
-fn fraction(rng: Rng) -> Rng {
-    let (after, draw) = rng.next_f64();
-    output::float(draw);
-    after
-}
-
-fn direction_seeds(seed: u64) {
-    output::hex(draws::direction_seed(seed, 0));
-    output::hex(draws::direction_seed(seed, 1));
-    output::hex(draws::direction_seed(seed, 2));
-    output::hex(draws::direction_seed(seed, 0xFFFF_FFFF));
-    output::hex(draws::direction_seed(seed, 0x8000_0000_0000_0000));
-    output::hex(draws::direction_seed(seed, 0xFFFF_FFFF_FFFF_FFFF));
-}
-
-// A generator on its way through a long run, and the number that its draws were folded into.
+// A generator, and the number that its draws so far were folded into.
 #[derive(Clone, Copy)]
 struct Run {
     rng: Rng,
-    fold: u64,
+    fold: Fold,
 }
 
 // A million outputs, draws and direction seeds, folded into one number.
 fn long_run(seed: u64) -> u64 {
     let mut run = Run {
         rng: Rng::new(seed),
-        fold: 0,
+        fold: Fold(0),
     };
     for _ in 0..1000000u32 {
-        run = step(run);
+        run.step();
     }
-    run.fold
+    run.fold.0
 }
 
-// Folds in the direction seed of the next output, with the fold as its salt, and the bits of the draw after it.
-fn step(run: Run) -> Run {
-    let fold = run.fold;
-    let (rng, output) = run.rng.next_u64();
-    let (rng, draw) = rng.next_f64();
-    let seed = draws::direction_seed(output, fold);
-    Run {
-        rng,
-        fold: numbers::wrapping_mul(seed ^ f64::to_bits(draw), 0x100_0000_01B3),
+impl Run {
+    // Folds in the direction seed of the next output, with the fold as its salt, and the bits of the draw after it.
+    fn step(&mut self) {
+        let (rng, output) = self.rng.next_u64();
+        let (rng, draw) = rng.next_f64();
+        self.rng = rng;
+        self.fold = Fold(draws::direction_seed(output, self.fold.0)).with(draw);
     }
 }
 
 // The maximum and the minimum of every pair of the floats.
-pub fn extremes() {
-    for k in 0..256 {
-        extreme_pair(floats::at(k / 16), floats::at(k % 16));
+pub fn extremes<W: Write>(out: &mut W) -> io::Result<()> {
+    for x in FLOATS {
+        extremes_with(out, x)?;
     }
+    Ok(())
 }
 
 // Nothing for a pair of zeros, of which Rust may give either.
-fn extreme_pair(x: f64, y: f64) {
-    if x == 0.0 && y == 0.0 {
-        return;
+fn extremes_with<W: Write>(out: &mut W, x: f64) -> io::Result<()> {
+    for y in FLOATS {
+        if x != 0.0 || y != 0.0 {
+            write!(out, "max_min {} {}", Bits(x), Bits(y))?;
+            write!(out, " {}", Bits(numbers::maximum(x, y)))?;
+            writeln!(out, " {}", Bits(numbers::minimum(x, y)))?;
+        }
     }
-    output::text(b"max_min");
-    output::float(x);
-    output::float(y);
-    output::float(numbers::maximum(x, y));
-    output::float(numbers::minimum(x, y));
-    output::end();
+    Ok(())
 }

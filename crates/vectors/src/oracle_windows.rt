@@ -1,6 +1,9 @@
 // The lines that oracle/src/windows.rs prints of the Rust source.
-use crate::floats;
+use crate::floats::FLOATS;
 use options::Window;
+use output::Bits;
+use std::io;
+use std::io::Write;
 
 // Just below, at and just above 10 and 20, and the two largest floats that a bound can become.
 const NEAR: [f64; 8] = [
@@ -15,35 +18,30 @@ const NEAR: [f64; 8] = [
 ];
 
 // Empty, ordinary and reversed windows, bounds around 2^53 that are rounded as floats, and the largest.
-pub fn windows() {
-    of_window(0, 0);
-    of_window(0, 1);
-    of_window(10, 20);
-    of_window(20, 10);
-    of_window(9007199254740991, 9007199254740993);
-    of_window(9007199254740993, 9007199254740995);
-    of_window(0, 18446744073709551615);
-    of_window(18446744073709550591, 18446744073709550592);
-}
+const BOUNDS: [(u64, u64); 8] = [
+    (0, 0),
+    (0, 1),
+    (10, 20),
+    (20, 10),
+    (9007199254740991, 9007199254740993),
+    (9007199254740993, 9007199254740995),
+    (0, 18446744073709551615),
+    (18446744073709550591, 18446744073709550592),
+];
 
-fn of_window(start_ms: u64, end_ms: u64) {
-    let window = Window { start_ms, end_ms };
-    for i in 0..24 {
-        line(window, instant(i));
+pub fn windows<W: Write>(out: &mut W) -> io::Result<()> {
+    for (start_ms, end_ms) in BOUNDS {
+        of_window(out, Window { start_ms, end_ms })?;
     }
+    Ok(())
 }
 
-// The sixteen floats, and then those near.
-fn instant(i: usize) -> f64 {
-    if i < 16 { floats::at(i) } else { NEAR[i % 8] }
-}
-
-// Whether the window holds the instant.
-fn line(window: Window, t_ms: f64) {
-    output::text(b"contains");
-    output::count(window.start_ms);
-    output::count(window.end_ms);
-    output::float(t_ms);
-    output::flag(window.contains(t_ms));
-    output::end();
+// Whether the window holds the sixteen floats, and then those near.
+fn of_window<W: Write>(out: &mut W, window: Window) -> io::Result<()> {
+    for t_ms in FLOATS.iter().chain(NEAR.iter()) {
+        let holds = u8::from(window.contains(*t_ms));
+        write!(out, "contains {} {}", window.start_ms, window.end_ms)?;
+        writeln!(out, " {} {holds}", Bits(*t_ms))?;
+    }
+    Ok(())
 }

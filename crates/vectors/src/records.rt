@@ -1,79 +1,67 @@
-// Records of the accounts as text: every counter in decimal, every float by its bits.
+// Records of the accounts as text: every counter in decimal, every float by its bits, each behind a blank.
 use accounts::{DirectionStats, LatencyStats, SendAccountant};
-use numbers::Refusal;
+use output::{Bits, Counts};
+use std::fmt;
 
-pub fn accountant(a: SendAccountant) {
-    counts(&[
-        a.sent_pkts,
-        a.sent_bytes,
-        a.dropped_overflow,
-        a.tcp_rst_kills,
-        a.nat_rebinds,
-    ]);
-    let l = a.latency;
-    latency(l);
+#[derive(Clone, Copy)]
+pub struct Sends<'a>(pub &'a SendAccountant);
+
+impl fmt::Display for Sends<'_> {
+    fn fmt<W: fmt::Write>(&self, f: &mut fmt::Formatter<W>) -> fmt::Result {
+        let a = self.0;
+        let counts = [
+            a.sent_pkts,
+            a.sent_bytes,
+            a.dropped_overflow,
+            a.tcp_rst_kills,
+            a.nat_rebinds,
+        ];
+        write!(f, "{}{}", Counts(&counts), Latencies(a.latency))
+    }
 }
 
-pub fn stats(s: DirectionStats) {
-    counts(&[
-        s.received_pkts,
-        s.received_bytes,
-        s.sent_pkts,
-        s.sent_bytes,
-        s.dropped_random,
-        s.dropped_ge,
-        s.dropped_mtu,
-        s.dropped_blackout,
-        s.dropped_overflow,
-        s.duplicates,
-        s.reorder_hits,
-        s.rate_deferred,
-        s.nat_rebinds,
-        s.tcp_rst_kills,
-    ]);
-    let hist = s.hist;
-    latency(LatencyStats {
-        count: s.latency_count,
-        sum_ms: s.latency_sum_ms,
-        min_ms: s.latency_min_ms,
-        max_ms: s.latency_max_ms,
-        hist,
-    });
+#[derive(Clone, Copy)]
+pub struct Stats<'a>(pub &'a DirectionStats);
+
+impl fmt::Display for Stats<'_> {
+    fn fmt<W: fmt::Write>(&self, f: &mut fmt::Formatter<W>) -> fmt::Result {
+        let s = self.0;
+        let counts = [
+            s.received_pkts,
+            s.received_bytes,
+            s.sent_pkts,
+            s.sent_bytes,
+            s.dropped_random,
+            s.dropped_ge,
+            s.dropped_mtu,
+            s.dropped_blackout,
+            s.dropped_overflow,
+            s.duplicates,
+            s.reorder_hits,
+            s.rate_deferred,
+            s.nat_rebinds,
+            s.tcp_rst_kills,
+        ];
+        let latencies = LatencyStats {
+            count: s.latency_count,
+            sum_ms: s.latency_sum_ms,
+            min_ms: s.latency_min_ms,
+            max_ms: s.latency_max_ms,
+            hist: s.hist,
+        };
+        write!(f, "{}{}", Counts(&counts), Latencies(latencies))
+    }
 }
 
 // The latencies, which are the last of a record.
-fn latency(l: LatencyStats) {
-    output::count(l.count);
-    output::float(l.sum_ms);
-    output::float(l.min_ms);
-    output::float(l.max_ms);
-    let hist = l.hist;
-    counts(&hist);
-    output::end();
-}
+#[derive(Clone, Copy)]
+struct Latencies(LatencyStats);
 
-fn counts(list: &[u64]) {
-    for i in 0..list.len() {
-        output::count(list[i]);
+impl fmt::Display for Latencies {
+    fn fmt<W: fmt::Write>(&self, f: &mut fmt::Formatter<W>) -> fmt::Result {
+        let l = &self.0;
+        write!(f, " {} {}", l.count, Bits(l.sum_ms))?;
+        write!(f, " {} {}", Bits(l.min_ms), Bits(l.max_ms))?;
+        write!(f, "{}", Counts(&l.hist))
     }
-}
-
-pub fn total(dropped: Result<u64, Refusal>) {
-    match dropped {
-        Ok(n) => output::count(n),
-        Err(refusal) => refused(refusal),
-    }
-    output::end();
-}
-
-pub fn outcome(o: Result<(), Refusal>) {
-    match o {
-        Ok(()) => output::text(b" done"),
-        Err(refusal) => refused(refusal),
-    }
-}
-
-fn refused(refusal: Refusal) {
-    output::text(b" refused");
-    output::count(u64::from(refusal.number()));
 }

@@ -1,129 +1,127 @@
 // Calls of the accounts at the limits of refusals 22 and 25: the answer, and the record that comes back.
-use crate::records;
-use accounts::{DirectionStats, SendAccountant};
-
-// The least number that refusal 25 turns away.
-const TOO_MANY: u64 = 0x1000_0000_0000_0000;
-
-// A counter of an accountant; the bucket is the last of its histogram.
-#[derive(Clone, Copy)]
-enum SendCounter {
-    Packets,
-    Rebinds,
-    Bucket,
-}
-
-// A counter of statistics.
-#[derive(Clone, Copy)]
-enum StatsCounter {
-    Received,
-    Resets,
-}
+use crate::records::{Sends, Stats};
+use crate::samples::COUNTER_LIMIT;
+use accounts::{DirectionStats, LatencyStats, SendAccountant};
+use output::Answered;
+use std::io;
+use std::io::Write;
 
 // Packets of the longest length and of one byte more; the length is judged before the counters.
-pub fn lengths() {
-    send(b"len=2048", SendCounter::Packets, 0, 2048);
-    send(b"len=2049", SendCounter::Packets, 0, 2049);
-    send(
-        b"len=2049 sent_pkts=2^60",
-        SendCounter::Packets,
-        TOO_MANY,
-        2049,
-    );
+pub fn lengths<W: Write>(out: &mut W) -> io::Result<()> {
+    send(out, "len=2048", sent(0), 2048)?;
+    send(out, "len=2049", sent(0), 2049)?;
+    send(out, "len=2049 sent_pkts=2^60", sent(COUNTER_LIMIT), 2049)
 }
 
-// Counters of the accountant: the last that is let through, and the first that is not.
-pub fn sends() {
-    send(
-        b"len=0 sent_pkts=2^60-1",
-        SendCounter::Packets,
-        TOO_MANY - 1,
-        0,
-    );
-    send(b"len=0 sent_pkts=2^60", SendCounter::Packets, TOO_MANY, 0);
-    send(b"len=0 nat_rebinds=2^60", SendCounter::Rebinds, TOO_MANY, 0);
-    send(b"len=0 hist[11]=2^60", SendCounter::Bucket, TOO_MANY, 0);
+// Counters of the accountant: the greatest that is taken, and the least that is refused.
+pub fn sends<W: Write>(out: &mut W) -> io::Result<()> {
+    let rebinds = SendAccountant {
+        nat_rebinds: COUNTER_LIMIT,
+        ..SendAccountant::default()
+    };
+    send(out, "len=0 sent_pkts=2^60-1", sent(COUNTER_LIMIT - 1), 0)?;
+    send(out, "len=0 sent_pkts=2^60", sent(COUNTER_LIMIT), 0)?;
+    send(out, "len=0 nat_rebinds=2^60", rebinds, 0)?;
+    send(out, "len=0 hist[11]=2^60", last_bucket(COUNTER_LIMIT), 0)
 }
 
 // Counters of the statistics, whether the call changes them or not.
-pub fn deliveries() {
-    deliver(b"tcp_rst_kills=2^60-1", StatsCounter::Resets, TOO_MANY - 1);
-    deliver(b"tcp_rst_kills=2^60", StatsCounter::Resets, TOO_MANY);
-    deliver(b"received_pkts=2^60", StatsCounter::Received, TOO_MANY);
+pub fn deliveries<W: Write>(out: &mut W) -> io::Result<()> {
+    deliver(out, "tcp_rst_kills=2^60-1", resets(COUNTER_LIMIT - 1))?;
+    deliver(out, "tcp_rst_kills=2^60", resets(COUNTER_LIMIT))?;
+    deliver(out, "received_pkts=2^60", received(COUNTER_LIMIT))
 }
 
 // A merge judges the counters of both records.
-pub fn merges() {
+pub fn merges<W: Write>(out: &mut W) -> io::Result<()> {
     merge(
-        b"sent_pkts=2^60-1 received_pkts=2^60-1",
-        SendCounter::Packets,
-        TOO_MANY - 1,
-        TOO_MANY - 1,
-    );
+        out,
+        "sent_pkts=2^60-1 received_pkts=2^60-1",
+        sent(COUNTER_LIMIT - 1),
+        received(COUNTER_LIMIT - 1),
+    )?;
     merge(
-        b"hist[11]=2^60 received_pkts=0",
-        SendCounter::Bucket,
-        TOO_MANY,
-        0,
-    );
+        out,
+        "hist[11]=2^60 received_pkts=0",
+        last_bucket(COUNTER_LIMIT),
+        received(0),
+    )?;
     merge(
-        b"hist[11]=0 received_pkts=2^60",
-        SendCounter::Bucket,
-        0,
-        TOO_MANY,
-    );
+        out,
+        "hist[11]=0 received_pkts=2^60",
+        last_bucket(0),
+        received(COUNTER_LIMIT),
+    )
 }
 
-// The counter is n, all others are 0.
-fn send(name: &[u8], counter: SendCounter, n: u64, len: usize) {
-    output::text(b"refusal on_send ");
-    output::text(name);
-    let (after, sent) = accountant(counter, n).on_send(len, 1.0);
-    records::outcome(sent);
-    records::accountant(after);
+fn send<W: Write>(out: &mut W, name: &str, a: SendAccountant, len: usize) -> io::Result<()> {
+    let (after, sent) = a.on_send(len, 1.0);
+    write!(
+        out,
+        "refusal on_send {name} {}",
+        Answered(sent.map(|_| "done"))
+    )?;
+    writeln!(out, "{}", Sends(&after))
 }
 
 // What record_delivered and total_dropped answer.
-fn deliver(name: &[u8], counter: StatsCounter, n: u64) {
-    let s = stats(counter, n);
-    output::text(b"refusal record_delivered ");
-    output::text(name);
+fn deliver<W: Write>(out: &mut W, name: &str, s: DirectionStats) -> io::Result<()> {
     let (after, delivered) = s.record_delivered(1.0);
-    records::outcome(delivered);
-    records::stats(after);
-    output::text(b"refusal total_dropped ");
-    output::text(name);
-    records::total(s.total_dropped());
+    write!(
+        out,
+        "refusal record_delivered {name} {}",
+        Answered(delivered.map(|_| "done"))
+    )?;
+    writeln!(out, "{}", Stats(&after))?;
+    writeln!(
+        out,
+        "refusal total_dropped {name} {}",
+        Answered(s.total_dropped())
+    )
 }
 
-fn merge(name: &[u8], counter: SendCounter, n: u64, received: u64) {
-    output::text(b"refusal merge_into ");
-    output::text(name);
-    let (after, merged) = accountant(counter, n).merge_into(stats(
-        StatsCounter::Received,
-        received,
-    ));
-    records::outcome(merged);
-    records::stats(after);
+fn merge<W: Write>(
+    out: &mut W,
+    name: &str,
+    a: SendAccountant,
+    s: DirectionStats,
+) -> io::Result<()> {
+    let (after, merged) = a.merge_into(s);
+    write!(
+        out,
+        "refusal merge_into {name} {}",
+        Answered(merged.map(|_| "done"))
+    )?;
+    writeln!(out, "{}", Stats(&after))
 }
 
-fn accountant(counter: SendCounter, n: u64) -> SendAccountant {
-    let mut a = SendAccountant::default();
-    let mut l = a.latency;
-    match counter {
-        SendCounter::Packets => a.sent_pkts = n,
-        SendCounter::Rebinds => a.nat_rebinds = n,
-        SendCounter::Bucket => l.hist[11] = n,
+fn sent(sent_pkts: u64) -> SendAccountant {
+    SendAccountant {
+        sent_pkts,
+        ..SendAccountant::default()
     }
-    a.latency = l;
-    a
 }
 
-fn stats(counter: StatsCounter, n: u64) -> DirectionStats {
-    let mut s = DirectionStats::default();
-    match counter {
-        StatsCounter::Received => s.received_pkts = n,
-        StatsCounter::Resets => s.tcp_rst_kills = n,
+fn last_bucket(n: u64) -> SendAccountant {
+    SendAccountant {
+        latency: LatencyStats {
+            hist: [0, 0, 0, 0, 0, 0, 0, 0, 0, 0, 0, n],
+            ..LatencyStats::default()
+        },
+        ..SendAccountant::default()
     }
-    s
+}
+
+fn received(received_pkts: u64) -> DirectionStats {
+    DirectionStats {
+        received_pkts,
+        ..DirectionStats::default()
+    }
+}
+
+fn resets(tcp_rst_kills: u64) -> DirectionStats {
+    DirectionStats {
+        tcp_rst_kills,
+        ..DirectionStats::default()
+    }
 }

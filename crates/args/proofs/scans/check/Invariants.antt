@@ -1,10 +1,9 @@
--- The outcome of the text is that of what is left behind each step, and the step that does not go on says it.
-use Rattle.std.proofs.Common.{◌≡◌, ◌-◌, length, drop}
+-- The outcome of the text is the refusal among the arguments that are left.
+use Rattle.std.proofs.Common.{◌≡◌}
 use Rattle.args.specs.Arguments.{gathered}
+use Rattle.args.specs.Left.{args_left}
+use Rattle.args.proofs.ReadsGathered.{outcome_in}
 use Rattle.args.proofs.scans.check.Given as goal
 
-abbrev pub invariant-loop-refusal : goal.invariant-loop-refusal
-invariant-loop-refusal l = (gathered l.text).outcome ≡ (gathered (drop l.cursor.at l.text)).outcome
-
-abbrev pub decreases-loop-refusal : goal.decreases-loop-refusal
-decreases-loop-refusal l = length l.text - l.cursor.at
+abbrev pub invariant-loop-read : goal.invariant-loop-read
+invariant-loop-read l = (gathered l.text).outcome ≡ outcome_in (args_left l.read-iterator)

@@ -1,11 +1,7 @@
--- Two comparisons with whole numbers.
+-- The bound is a whole number.
 use lib.Ieee.{of_int, of_bits}
 use Rattle.judgement.proofs.setting.is_time.Goals as goal
 
-pub returns-then-x : goal.returns-then-x
+pub returns : goal.returns
 unfolding of_int of_bits
-returns-then-x c = rw c.if-x.true
-
-pub returns-else-x : goal.returns-else-x
-unfolding of_int of_bits
-returns-else-x c = rw c.if-x.false
+returns c = c.is_within.ensures

@@ -42,4 +42,4 @@ returns-then-t c = within c.args.t (rw c.well_formed.0.1 tt) c.if-t.true
 
 pub returns-else-t : goal.returns-else-t
 unfolding of_bits
-returns-else-t c = beyond c.args.t c.if-t.false
+returns-else-t c = c.if-t.false ∙ beyond c.args.t c.if-t.false

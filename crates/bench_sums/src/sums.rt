@@ -1,0 +1,30 @@
+// What the calls answer, summed up, so that none of their work can be left out.
+use queue::Queued;
+
+// The bytes of a slot, and so of the buffer to which the bytes of what left go.
+const SLOT_WIDTH: u32 = 2048;
+
+// The sum rotated by five bits, so that the order counts.
+pub fn add(sum: u64, weight: u64) -> u64 {
+    sum.rotate_left(5) ^ weight
+}
+
+// The bits of a float, and 0 for a NaN.
+pub fn bits(x: f64) -> u64 {
+    if x.is_nan() { 0 } else { x.to_bits() }
+}
+
+// The first byte, and 256 where there is none.
+fn first(bytes: &[u8]) -> u64 {
+    bytes.first().map_or(256, |byte| u64::from(*byte))
+}
+
+// The bytes of a copy that left go to `sent`, as a host hands them on. Returned is the sum of its first byte, seq, route and copy id.
+pub fn send(store: &[u8], copy: Queued, sent: &mut [u8]) -> u64 {
+    let bytes = queue::payload(store, copy.slot, copy.length);
+    tables::fill(sent, SLOT_WIDTH, 0, bytes);
+    copy.seq
+        .wrapping_add(copy.route)
+        .wrapping_add(first(sent))
+        .wrapping_add(u64::from(copy.copy_id))
+}

@@ -1,0 +1,7 @@
+// The bytes of packets.
+
+pub const PACKET: &[u8] = b"aaa";
+
+pub const LONGEST: [u8; 2048] = [b'a'; 2048];
+
+pub const TOO_LONG: [u8; 2049] = [b'a'; 2049];

@@ -1,0 +1,37 @@
+// The call that a line asks for.
+use queue::Packet;
+use queue_calls::Call;
+use script::words::Words;
+use script::{lines, payload};
+
+// The bytes of a copy that is to enter are made in `room`.
+pub fn call_of<'a>(line: &[u8], room: &'a mut [u8]) -> Option<Call<'a>> {
+    if line.len() > lines::LONGEST {
+        return None;
+    }
+    let mut words = Words::new(line);
+    let call = match words.next()? {
+        b"queue" => Call::Create(usize::try_from(words.whole()?).ok()?),
+        b"push" => push(&mut words, room)?,
+        b"release" => Call::Release(words.float()?),
+        b"due" => Call::NextDue,
+        b"drain" => Call::Drain,
+        b"len" => Call::Len,
+        _ => return None,
+    };
+    if words.is_empty() { Some(call) } else { None }
+}
+
+// A due, an arrival, a route, a copy id, a length and a seed.
+fn push<'a>(words: &mut Words<'_>, room: &'a mut [u8]) -> Option<Call<'a>> {
+    let packet = Packet {
+        due_ms: words.float()?,
+        arrival_ms: words.float()?,
+        route: words.whole()?,
+        copy_id: u32::try_from(words.whole()?).ok()?,
+        duplicated: false,
+    };
+    let (length, seed) = (words.whole()?, words.whole()?);
+    let bytes = payload::fill(room, length, seed);
+    Some(Call::Push(packet, bytes))
+}
