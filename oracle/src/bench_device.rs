@@ -173,7 +173,7 @@ impl Line {
         Line { engine, queue: ImpairQueue::new(cap), accounts: SendAccountant::default(), sent: vec![1; SLOT_WIDTH], sum: 0 }
     }
 
-    // The sum turned by five bits, so that the order counts.
+    // The sum rotated by five bits, so that the order counts.
     fn add(&mut self, weight: u64) {
         self.sum = self.sum.rotate_left(5) ^ weight;
     }
