@@ -20,7 +20,7 @@ pub struct SendAccountant {
     pub latency: LatencyStats,
 }
 
-// By hand, since a derived `default` has no clause.
+// By hand: the clause names the record, where a derived one speaks of each field, and each layer above would have to put them together.
 #[tactic(auto, unfolding(crate::specs::Accountant::no_sends))]
 impl Default for SendAccountant {
     ghost is_default = { λ a. a ≡ no_sends };
@@ -91,7 +91,7 @@ fn merged(a: &SendAccountant, mut st: DirectionStats) -> DirectionStats
     requires stats { SmallStats st }
     ensures { result ≡ merged_of a.now st }
 {
-    let joined = joining::joined(&stats::latencies(&st), &a.latency);
+    let joined = joining::joined(&LatencyStats::from(&st), &a.latency);
     st.sent_pkts += a.sent_pkts;
     st.sent_bytes += a.sent_bytes;
     st.dropped_overflow += a.dropped_overflow;

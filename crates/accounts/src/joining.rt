@@ -50,7 +50,7 @@ fn joined_maximum(target: &LatencyStats, l: &LatencyStats) -> f64
     }
 }
 
-// The sums of two histograms, bucket by bucket. By index, since a proof knows no element of an array after a loop over its `iter_mut`.
+// The sums of two histograms, bucket by bucket. By index, as in the source: through `iter_mut().zip(..)` a proof loses the elements.
 fn joined_hist(mut target: [u64; N_BUCKETS], hist: &[u64; N_BUCKETS]) -> [u64; N_BUCKETS]
     requires { (are_counters target ≡ true) × (are_counters hist.now ≡ true) }
     ensures { result ≡ sums target hist.now }

@@ -15,7 +15,7 @@ pub struct LatencyStats {
     pub hist: [u64; N_BUCKETS],
 }
 
-// By hand, since a derived `default` has no clause.
+// By hand: the clause names the record, where a derived one speaks of each field, and each layer above would have to put them together.
 impl Default for LatencyStats {
     ghost is_default = { λ l. l ≡ no_latencies };
 
@@ -60,7 +60,7 @@ fn minimum_with(count: u64, min_ms: f64, latency_ms: f64) -> f64
     }
 }
 
-// The maximum with one latency more.
+// The maximum with one latency more. Unlike the minimum it does not ask whether there was one before.
 #[tactic(auto, unfolding(crate::specs::Latency::maximum_with_of))]
 fn maximum_with(max_ms: f64, latency_ms: f64) -> f64
     ensures { result ≡ maximum_with_of max_ms latency_ms }

@@ -32,7 +32,7 @@ pub struct DirectionStats {
     pub hist: [u64; N_BUCKETS],
 }
 
-// By hand, since a derived `default` has no clause.
+// By hand: the clause names the record, where a derived one speaks of each field, and each layer above would have to put them together.
 impl Default for DirectionStats {
     ghost is_default = { λ s. s ≡ no_stats };
 
@@ -70,7 +70,7 @@ impl DirectionStats {
         if !self.in_range() {
             return (self, Err(Refusal::Counter));
         }
-        let mut recorded = latencies(&self);
+        let mut recorded = LatencyStats::from(&self);
         recorded.record(latency_ms);
         (with_latencies(self, &recorded), Ok(()))
     }
@@ -120,15 +120,17 @@ impl DirectionStats {
 
 // The latencies among the statistics.
 #[tactic(auto, unfolding(crate::specs::Stats::latencies_of))]
-pub(crate) fn latencies(s: &DirectionStats) -> LatencyStats
-    ensures { result ≡ latencies_of s.now }
-{
-    LatencyStats {
-        count: s.latency_count,
-        sum_ms: s.latency_sum_ms,
-        min_ms: s.latency_min_ms,
-        max_ms: s.latency_max_ms,
-        hist: s.hist,
+impl From<&DirectionStats> for LatencyStats {
+    ghost from_gives = { λ s l. l ≡ latencies_of s.now };
+
+    fn from(s: &DirectionStats) -> LatencyStats {
+        LatencyStats {
+            count: s.latency_count,
+            sum_ms: s.latency_sum_ms,
+            min_ms: s.latency_min_ms,
+            max_ms: s.latency_max_ms,
+            hist: s.hist,
+        }
     }
 }
 

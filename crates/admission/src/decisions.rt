@@ -12,7 +12,8 @@ use numbers::Refusal;
 use queue::{ImpairQueue, Packet, RowsMut, TreeMut};
 use steps::Decision;
 
-// A drop leaves the queue as it is, a reset tears it down, and the copies of all else enter or overflow; or 26.
+// A drop leaves the queue as it is, a reset tears it down, and the copies of all else enter or overflow; or 26. Beside what is lent it takes the arguments of
+// document 01's `arrive`, of which a packet is made only where the decision lets one through.
 #[tactic(auto, unfolding(crate::specs::Follow::follow_of, crate::specs::Follow::copies_of, crate::specs::Admitted::torn_of))]
 pub fn follow(
     queue: ImpairQueue,

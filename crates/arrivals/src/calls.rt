@@ -5,7 +5,7 @@ use script::{hex, lines, words};
 use std::alloc::{AllocError, Global};
 
 // What a line asks for.
-#[derive(Drop)]
+#[derive(Debug, PartialEq, Drop)]
 pub enum Call {
     Options(Vec<u8>),
     Create { direction: Direction, seed: u64 },
@@ -18,23 +18,20 @@ pub enum Call {
 }
 
 impl Call {
-    // The call of a line, where it is one.
+    // The call of a line, where it is one. The same lines as in `replay`: a shared function would take two closures, and a clause for each.
     pub fn read(alloc: Global, line: &[u8]) -> Result<Option<Self>, AllocError> {
         match words::split_word(line) {
             (b"options", Some(digits)) => Ok(hex::decode(alloc, digits)?.map(Call::Options)),
             _ if line.len() > lines::LONGEST => Ok(None),
-            (word, Some(rest)) => Ok(with_numbers(word, rest)),
-            (b"o", None) => Ok(Some(Call::Overflow)),
-            (b"s", None) => Ok(Some(Call::Stats)),
-            _ => Ok(None),
+            _ => Ok(of_words(line)),
         }
     }
 }
 
-// The call that a first word names, with the numbers behind it.
-fn with_numbers(word: &[u8], rest: &[u8]) -> Option<Call> {
-    let mut words = Words::new(rest);
-    let call = match word {
+// The call that the first word of a line names, with the numbers behind it.
+fn of_words(line: &[u8]) -> Option<Call> {
+    let mut words = Words::new(line);
+    let call = match words.next()? {
         b"engine" => creation(&mut words)?,
         b"d" => arrival(&mut words)?,
         b"b" => Call::Rebind {
@@ -46,9 +43,11 @@ fn with_numbers(word: &[u8], rest: &[u8]) -> Option<Call> {
         b"h" => Call::Hold {
             now_ms: words.float()?,
         },
+        b"o" => Call::Overflow,
+        b"s" => Call::Stats,
         _ => return None,
     };
-    if words.is_empty() { Some(call) } else { None }
+    words.is_empty().then_some(call)
 }
 
 // A direction and a seed.
@@ -63,6 +62,6 @@ fn creation(words: &mut Words<'_>) -> Option<Call> {
 fn arrival(words: &mut Words<'_>) -> Option<Call> {
     Some(Call::Decide {
         now_ms: words.float()?,
-        len: usize::try_from(words.whole()?).ok()?,
+        len: words.size()?,
     })
 }

@@ -49,25 +49,24 @@ impl Session {
 
     fn create(&mut self, direction: Direction, seed: u64) -> Result<(), Refusal> {
         let settings = direction.settings(&self.config);
-        let (engine, answer) = ArrivalEngine::new(settings, seed);
-        self.engine = engine;
-        answer
+        self.keep(ArrivalEngine::new(settings, seed))
     }
 
     fn decide(&mut self, now_ms: f64, len: usize) -> Result<Decision, Refusal> {
-        let (engine, answer) = self.engine.decide(now_ms, len);
-        self.engine = engine;
-        answer
+        self.keep(self.engine.decide(now_ms, len))
     }
 
     fn rebind(&mut self, now_ms: f64) -> Result<bool, Refusal> {
-        let (engine, answer) = self.engine.should_rebind_now(now_ms);
-        self.engine = engine;
-        answer
+        self.keep(self.engine.should_rebind_now(now_ms))
     }
 
     fn overflow(&mut self) -> Result<(), Refusal> {
-        let (engine, answer) = self.engine.stats_inc_overflow();
+        self.keep(self.engine.stats_inc_overflow())
+    }
+
+    // Keeps the engine that a call gave; the answer is the call's. By value: the form that document 01 gives the calls.
+    fn keep<T>(&mut self, called: (ArrivalEngine, Result<T, Refusal>)) -> Result<T, Refusal> {
+        let (engine, answer) = called;
         self.engine = engine;
         answer
     }

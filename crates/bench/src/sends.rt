@@ -4,7 +4,8 @@ use draws::Rng;
 use std::io;
 use std::io::Write;
 
-// What is printed is taken out of the accountant first: where the accountant is lent to be printed, the loop takes 1.6 times as long.
+// What is printed is taken out of the accountant first: where the accountant is lent to be printed, the loop takes 1.6 times as long, and the ratio to the
+// Rust is not to rise.
 pub fn run<W: Write>(out: &mut W) -> io::Result<()> {
     let mut rng = Rng::new(1);
     let mut accountant = SendAccountant::default();

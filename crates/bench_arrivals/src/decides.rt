@@ -1,7 +1,7 @@
 // Ten million packets arrive at an engine of an option text's c2s settings, and what was decided is summed up, so that
 // the work cannot be left out.
 use accounts::DirectionStats;
-use bench_sums::bits;
+use bench_sums::{bits, number};
 use engine::ArrivalEngine;
 use numbers::Refusal;
 use std::io;
@@ -26,7 +26,7 @@ pub fn run<W: Write>(text: &[u8], out: &mut W) -> io::Result<()> {
 fn weight(answer: Result<Decision, Refusal>) -> u64 {
     match answer {
         Ok(decision) => decision_weight(decision),
-        Err(refusal) => u64::from(refusal.number()),
+        Err(refusal) => number(refusal),
     }
 }
 

@@ -10,9 +10,9 @@ use queue::{Rows, RowsMut, Tree, TreeMut};
 // The salt of the direction.
 const SALT: u64 = 1;
 
-// The driver in Rust lends each table by itself.
 // A device of the option text's c2s settings, `count` arrivals, and after each one the releases of all that is due. Returned is a sum of what entered, what
 // left and what is reported at the end.
+// The C interface: the driver in Rust passes each table as a pointer and a length, so each is a parameter.
 #[unsafe(no_mangle)]
 pub extern "C" fn bench_device(
     win: &mut [u32],

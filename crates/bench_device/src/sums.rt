@@ -1,5 +1,5 @@
 // What the calls answer, summed up, so that none of their work can be left out.
-use bench_sums::{add, bits};
+use bench_sums::{add, bits, number};
 use device::{Arrived, Report};
 use numbers::Refusal;
 use queue::Queued;
@@ -8,7 +8,7 @@ use queue::Queued;
 pub(crate) fn with_arrival(sum: u64, answer: Result<Arrived, Refusal>) -> u64 {
     match answer {
         Ok(arrived) => add(sum, arrived.entered.wrapping_add(arrived.overflowed << 8)),
-        Err(refusal) => add(sum, u64::from(refusal.number()).wrapping_add(1000)),
+        Err(refusal) => add(sum, number(refusal).wrapping_add(1000)),
     }
 }
 
@@ -27,7 +27,7 @@ pub(crate) fn with_release(
     match answer {
         Ok(Some(copy)) => add(sum, send(store, copy, sent)),
         Ok(None) => sum,
-        Err(refusal) => add(sum, u64::from(refusal.number())),
+        Err(refusal) => add(sum, number(refusal)),
     }
 }
 
@@ -40,7 +40,7 @@ pub(crate) fn has_left(answer: Result<Option<Queued>, Refusal>) -> bool {
 pub(crate) fn with_report(sum: u64, answer: Result<Report, Refusal>) -> u64 {
     match answer {
         Ok(report) => with_counts(sum, report),
-        Err(refusal) => add(sum, u64::from(refusal.number())),
+        Err(refusal) => add(sum, number(refusal)),
     }
 }
 

@@ -1,8 +1,8 @@
 // What the driver in Rust lends.
 use queue::{RowsMut, TreeMut};
 
-// The queue's memory, the bytes that enter, and the buffer to which the bytes of what left go. With a lifetime for each of the two structs: with one for all,
-// as in queue_calls::Lent, the C interface does not prove.
+// The queue's memory, the bytes that enter, and the buffer to which the bytes of what left go.
+// Tried with one lifetime for all, as in `queue_calls::Lent`: the proof of `bench_queue` does not close.
 #[derive(Drop)]
 pub(crate) struct Lent<'a, 't, 'r> {
     pub tree: TreeMut<'t>,

@@ -8,8 +8,8 @@ use lent::Lent;
 use queue::{ImpairQueue, RowsMut, TreeMut};
 use turns::Turns;
 
-// The driver in Rust lends each table by itself.
 // A copy enters `count` times, and whenever more than `held` are held then, one leaves. Returned is a sum of what left.
+// The C interface: the driver in Rust passes each table as a pointer and a length, so each is a parameter.
 #[unsafe(no_mangle)]
 pub extern "C" fn bench_queue(
     win: &mut [u32],
@@ -44,15 +44,9 @@ pub extern "C" fn bench_queue(
         source,
         sent,
     };
-    let mut turns = Turns {
-        queue,
-        now_ms: 0.0,
-        draw: seed,
-        sum: 0,
-    };
+    let mut turns = Turns::new(queue, seed);
     for _ in 0..count {
-        turns.enter(&mut lent);
-        turns.leave(&mut lent, held);
+        turns.turn(&mut lent, held);
     }
     turns.sum
 }

@@ -15,13 +15,14 @@ const SPREAD_MS: f64 = 1000.0;
 // The queue, the instant, the draw of which a copy is made, and the sum of what left.
 #[derive(Drop)]
 pub(crate) struct Turns {
-    pub queue: ImpairQueue,
-    pub now_ms: f64,
-    pub draw: u64,
+    queue: ImpairQueue,
+    now_ms: f64,
+    draw: u64,
     pub sum: u64,
 }
 
-// The next state of the generator xorshift64.
+// The next state of the generator xorshift64. The driver in Rust (oracle/src/bench_queue.rs) has the same lines. With `draws::Rng` a round took 634
+// instructions in place of 606, and as little as can be is to be timed beside the queue.
 fn next(state: u64) -> u64 {
     let mut x = state;
     x ^= x << 13;
@@ -30,7 +31,7 @@ fn next(state: u64) -> u64 {
     x
 }
 
-// From 0 up to 1.
+// From 0 up to 1: the last step of `Rng::next_f64`, which does not give the draw, of which a copy is made too. The driver in Rust has this line.
 fn unit(draw: u64) -> f64 {
     numbers::float_of(draw >> 11) * (1.0 / 9007199254740992.0)
 }
@@ -54,8 +55,24 @@ fn send_answer(store: &[u8], answer: Result<Option<Queued>, Refusal>, sent: &mut
 }
 
 impl Turns {
+    // The draws follow from the seed.
+    pub(crate) fn new(queue: ImpairQueue, seed: u64) -> Self {
+        Turns {
+            queue,
+            now_ms: 0.0,
+            draw: seed,
+            sum: 0,
+        }
+    }
+
+    // A copy enters, and one leaves where more than `held` are held then.
+    pub(crate) fn turn(&mut self, lent: &mut Lent<'_, '_, '_>, held: usize) {
+        self.enter(lent);
+        self.leave(lent, held);
+    }
+
     // A copy enters, made of the next draw and due within the spread.
-    pub(crate) fn enter(&mut self, lent: &mut Lent<'_, '_, '_>) {
+    fn enter(&mut self, lent: &mut Lent<'_, '_, '_>) {
         self.draw = next(self.draw);
         let packet = Packet {
             due_ms: self.now_ms + unit(self.draw) * SPREAD_MS,
@@ -73,7 +90,7 @@ impl Turns {
     }
 
     // Where more than `held` are held, it is now the least due, and that copy leaves.
-    pub(crate) fn leave(&mut self, lent: &mut Lent<'_, '_, '_>, held: usize) {
+    fn leave(&mut self, lent: &mut Lent<'_, '_, '_>, held: usize) {
         if self.queue.len() <= held {
             return;
         }

@@ -5,4 +5,4 @@ mod input;
 mod sums;
 
 pub use input::read_text;
-pub use sums::{add, bits, send};
+pub use sums::{add, bits, number, send};

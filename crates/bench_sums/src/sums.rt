@@ -1,7 +1,8 @@
 // What the calls answer, summed up, so that none of their work can be left out.
+use numbers::Refusal;
 use queue::Queued;
 
-// The bytes of a slot, and so of the buffer to which the bytes of what left go.
+// The bytes of a slot, and so of the buffer to which the bytes of what left go: the benchmarks' own figure, written apart from that of `queue` on purpose.
 const SLOT_WIDTH: u32 = 2048;
 
 // The sum rotated by five bits, so that the order counts.
@@ -9,9 +10,14 @@ pub fn add(sum: u64, weight: u64) -> u64 {
     sum.rotate_left(5) ^ weight
 }
 
-// The bits of a float, and 0 for a NaN.
+// The bits of a float, and 0 for a NaN. With an `Option`, as in `device_edges`, each of its callers would add `unwrap_or(0)`.
 pub fn bits(x: f64) -> u64 {
     if x.is_nan() { 0 } else { x.to_bits() }
+}
+
+// The number of a refusal.
+pub fn number(refusal: Refusal) -> u64 {
+    u64::from(u32::from(refusal))
 }
 
 // The first byte, and 256 where there is none.

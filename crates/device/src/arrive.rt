@@ -8,7 +8,7 @@ ghost use Rattle.device.specs.Arrive.{counted_of, arrive_refusal, arrive_of};
 
 use crate::device::Device;
 use admission::Admitted;
-use numbers::Refusal;
+use numbers::{Refusal, check};
 use queue::{RowsMut, Sizes, TreeMut};
 use steps::Decision;
 
@@ -23,7 +23,7 @@ pub struct Arrived {
 
 impl Device {
     // Refuses an arrival by 23, 21, 22 or 25.
-    #[tactic(auto, unfolding(queue::specs::Refusals::memory_of))]
+    #[tactic(auto, unfolding(queue::specs::Refusals::memory_of, crate::specs::Refusals::call_refusal, numbers::specs::Checks::first_refusal, numbers::specs::Checks::check_of))]
     fn judge_arrival(
         &self,
         tree: &TreeMut<'_>,
@@ -37,7 +37,10 @@ impl Device {
         let memory = self
             .queue
             .has_memory(Sizes::of(tree.shared(), free, rows.shared()));
-        self.judged(memory, numbers::is_instant(now_ms), numbers::is_length(len))
+        check(memory, Refusal::Memory)?;
+        check(numbers::is_instant(now_ms), Refusal::Instant)?;
+        check(numbers::is_length(len), Refusal::Length)?;
+        self.judge_counters()
     }
 
     // Counts what an arrival did to the queue.
@@ -54,7 +57,7 @@ impl Device {
     }
 
     // A packet arrives: it is dropped, its copies enter or overflow, or all held copies are torn; or a refusal by 23, 21, 22, 25 or 26. In place, so that the
-    // settings are not copied.
+    // settings are not copied. Document 01 gives the call its instant, bytes and route; of what is lent, tree and rows are written and `free` is only read.
     #[tactic(auto, unfolding(crate::specs::Arrive::arrive_of))]
     pub fn arrive_in_place(
         &mut self,

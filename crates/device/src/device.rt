@@ -1,5 +1,5 @@
-// The state of a device, which goes by value beside the lent tables: document 01 gives its calls this form. Each of them stands over one in place, which copies
-// no settings.
+// The state of a device, which goes by value beside the lent tables, as its parts do in document 01. Arrive, release, rebind and teardown stand over calls in
+// place, which copy no settings.
 use accounts::SendAccountant;
 use engine::ArrivalEngine;
 use queue::ImpairQueue;

@@ -12,5 +12,5 @@ mod teardown;
 
 pub use arrive::Arrived;
 pub use device::Device;
-pub use release::payload;
+pub use queue::payload;
 pub use report::Report;

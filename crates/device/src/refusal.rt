@@ -1,7 +1,8 @@
 // Which refusal meets a call.
 ghost use Rattle.std.specs.Prelude.{◌≡◌};
+ghost use Rattle.numbers.specs.Checks.{check_of};
+ghost use Rattle.numbers.specs.declared.refusal.Refusal.TheVariants.{Counter};
 ghost use Rattle.machine.specs.Machine.{in_range};
-ghost use Rattle.device.specs.Refusals.{call_refusal};
 
 use crate::device::Device;
 use numbers::{Refusal, check};
@@ -18,14 +19,10 @@ impl Device {
             & numbers::is_counter(self.queue.next_seq)
     }
 
-    // Refuses a call whose memory, instant or length does not pass, or whose counters do not, in document 01's order.
-    #[tactic(auto, unfolding(crate::specs::Refusals::call_refusal, numbers::specs::Checks::first_refusal, numbers::specs::Checks::check_of))]
-    pub(crate) fn judged(&self, memory: bool, instant: bool, short: bool) -> Result<(), Refusal>
-        ensures { result ≡ call_refusal self.now memory instant short }
+    // Refuses a call by 25, which every call judges last.
+    pub(crate) fn judge_counters(&self) -> Result<(), Refusal>
+        ensures { result ≡ check_of (in_range self.now.engine self.now.accounts self.now.torn self.now.queue.next_seq) Counter }
     {
-        check(memory, Refusal::Memory)?;
-        check(instant, Refusal::Instant)?;
-        check(short, Refusal::Length)?;
         check(self.in_range(), Refusal::Counter)
     }
 }

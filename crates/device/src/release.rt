@@ -1,36 +1,18 @@
 // How the least copy leaves.
 ghost use Rattle.std.specs.Prelude.{◌≡◌};
 ghost use Rattle.tournament.specs.Trees.{SameTables};
-ghost use Rattle.queue.specs.Calls.{payload_of};
 ghost use Rattle.queue.specs.Lent.{exit_tables};
 ghost use Rattle.queue.specs.Refusals.{slot_width};
 ghost use Rattle.queue.specs.Tables.{after};
-ghost use Rattle.device.specs.Release.{accounted_of, sending_by, release_of};
+ghost use Rattle.device.specs.Release.{sending_by, release_of};
 
 use crate::device::Device;
-use numbers::Refusal;
+use numbers::{Refusal, check};
 use queue::{Queued, Rows, Sizes, TreeMut};
 
-// The first `length` bytes of a slot of the lent store: a released copy's bytes. None where slot or length is out of range.
-pub fn payload(store: &[u8], slot: u32, length: usize) -> &[u8]
-    ensures { result.now ≡ payload_of slot_width store.now slot length }
-{
-    queue::payload(store, slot, length)
-}
-
 impl Device {
-    // The copy is accounted with its latency; a length that 22 refuses was altered.
-    #[tactic(auto, unfolding(crate::specs::Release::accounted_of, crate::specs::Release::send_answer_of))]
-    fn account(&mut self, copy: Queued, now_ms: f64) -> Result<Option<Queued>, Refusal>
-        ensures { (self.new, result) ≡ accounted_of self.old copy now_ms }
-    {
-        let (accounts, sent) = self.accounts.on_send(copy.length, now_ms - copy.arrival_ms);
-        self.accounts = accounts;
-        sent.map(|()| Some(copy)).map_err(|_| Refusal::Keeping)
-    }
-
-    // What comes once the queue has answered; a queue that refuses was altered.
-    #[tactic(auto, unfolding(crate::specs::Release::sending_by))]
+    // What comes once the queue has answered: the copy is accounted with its latency. A queue that refuses was altered, and so was a length that 22 refuses.
+    #[tactic(auto, unfolding(crate::specs::Release::sending_by, crate::specs::Release::accounted_of, crate::specs::Release::send_answer_of))]
     fn send(
         &mut self,
         released: Result<Option<Queued>, Refusal>,
@@ -38,16 +20,17 @@ impl Device {
     ) -> Result<Option<Queued>, Refusal>
         ensures { (self.new, result) ≡ sending_by released self.old now_ms }
     {
-        match released {
-            Ok(Some(copy)) => self.account(copy, now_ms),
-            Ok(None) => Ok(None),
-            Err(_) => Err(Refusal::Keeping),
-        }
+        let Some(copy) = released.map_err(|_| Refusal::Keeping)? else {
+            return Ok(None);
+        };
+        let (accounts, sent) = self.accounts.on_send(copy.length, now_ms - copy.arrival_ms);
+        self.accounts = accounts;
+        sent.map(|()| Some(copy)).map_err(|_| Refusal::Keeping)
     }
 
     // The least copy with a due of at most `now_ms` leaves and is accounted; none due, or a refusal by 23, 21, 25 or 26. In place, so that the settings are not
     // copied.
-    #[tactic(auto, unfolding(crate::specs::Release::release_of, queue::specs::Refusals::memory_of))]
+    #[tactic(auto, unfolding(crate::specs::Release::release_of, queue::specs::Refusals::memory_of, crate::specs::Refusals::call_refusal, numbers::specs::Checks::first_refusal, numbers::specs::Checks::check_of))]
     pub fn release_in_place(
         &mut self,
         tree: &mut TreeMut<'_>,
@@ -59,7 +42,9 @@ impl Device {
         ensures same { SameTables tree.old tree.new }
     {
         let memory = self.queue.has_memory(Sizes::of(tree.shared(), free, rows));
-        self.judged(memory, numbers::is_instant(now_ms), true)?;
+        check(memory, Refusal::Memory)?;
+        check(numbers::is_instant(now_ms), Refusal::Instant)?;
+        self.judge_counters()?;
         let (queue, released) = self.queue.release(tree, free, rows, now_ms);
         self.queue = queue;
         self.send(released, now_ms)

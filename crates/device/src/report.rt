@@ -16,11 +16,11 @@ pub struct Report {
 
 impl Device {
     // The report, or a refusal by 25, beside which nothing is told: the caller keeps the device, which has the counts.
-    #[tactic(auto, unfolding(crate::specs::Others::report_of, crate::specs::Others::reported_by))]
+    #[tactic(auto, unfolding(crate::specs::Others::report_of, crate::specs::Others::reported_by, crate::specs::Refusals::call_refusal, numbers::specs::Checks::first_refusal, numbers::specs::Checks::check_of))]
     pub fn report(&self) -> Result<Report, Refusal>
         ensures { result ≡ report_of self.now }
     {
-        self.judged(true, true, true)?;
+        self.judge_counters()?;
         let (stats, merged) = self.accounts.merge_into(self.engine.stats);
         merged?;
         Ok(Report {

@@ -8,11 +8,11 @@ use numbers::Refusal;
 impl Device {
     // All held copies go to torn, and their number is told; or a refusal by 25, or by 26: a queue that refuses was altered. In place, so that the settings are
     // not copied.
-    #[tactic(auto, unfolding(crate::specs::Others::teardown_of, crate::specs::Others::torn_by))]
+    #[tactic(auto, unfolding(crate::specs::Others::teardown_of, crate::specs::Others::torn_by, crate::specs::Refusals::call_refusal, numbers::specs::Checks::first_refusal, numbers::specs::Checks::check_of))]
     pub fn teardown_in_place(&mut self) -> Result<u64, Refusal>
         ensures { (self.new, result) ≡ teardown_of self.old }
     {
-        self.judged(true, true, true)?;
+        self.judge_counters()?;
         let (after, drained) = self.queue.drain();
         self.queue = after;
         match drained {

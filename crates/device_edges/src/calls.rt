@@ -1,4 +1,4 @@
-// The calls over the memory of a host. Each prints its answer.
+// The calls over the memory of a host. Each prints its answer. By value: the form that document 01 gives the calls.
 use crate::host::Host;
 use crate::state::State;
 use crate::words::{DeviceWords, ReportWords};
@@ -79,7 +79,7 @@ impl<W: Write + Drop> Host<W> {
         write!(self.out, "; {}", DeviceWords(&self.device))
     }
 
-    // Whether every refused call since the creation has kept the device.
+    // Whether each call since the creation that was refused, but not by 26, has kept the device.
     pub fn tell_kept(&mut self) -> io::Result<()> {
         self.tell(Flagged("kept ", self.kept))
     }
@@ -97,7 +97,7 @@ impl<W: Write + Drop> Host<W> {
     // Takes over what a call has left; after 26 nothing is asked of the device.
     fn leave(&mut self, after: Device, refusal: Option<Refusal>) {
         if !matches!(refusal, None | Some(Refusal::Keeping)) {
-            self.kept &= State::of(&after) == State::of(&self.device);
+            self.kept &= State::from(&after) == State::from(&self.device);
         }
         self.device = after;
     }

@@ -7,7 +7,7 @@ use options::DirectionConfig;
 use std::io;
 use std::io::Write;
 
-// The least number that no counter may have, 2^60.
+// The least number that no counter may have, 2^60: the tests' own figure, written apart from the code on purpose.
 pub const TOO_MANY: u64 = 0x1000_0000_0000_0000;
 
 // With a next seq of 2^60 - 1 both copies of a packet enter, and all calls after that are refused.

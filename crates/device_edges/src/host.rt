@@ -9,7 +9,8 @@ use std::fmt::Display;
 use std::io;
 use std::io::Write;
 
-// `short` is the table that the calls are lent without its last entry; `kept` says whether every refused call so far has kept the device as it was.
+// `short` is the table that the calls are lent without its last entry; `kept` says whether each call so far that was refused, but not by 26, has kept the
+// device as it was.
 #[derive(Drop)]
 pub struct Host<W: Write + Drop> {
     pub alloc: Global,

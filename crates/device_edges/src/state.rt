@@ -2,7 +2,7 @@
 use device::Device;
 use queue::ImpairQueue;
 
-// All of a device but its settings.
+// All of a device but its settings, for comparing. By hand: a derived `==` has a NaN unlike itself and takes 0 for -0, so the floats stand here by their bits.
 #[derive(Clone, Copy, PartialEq, Eq)]
 pub struct State {
     queue: ImpairQueue,
@@ -12,8 +12,8 @@ pub struct State {
     floats: [Option<u64>; 9],
 }
 
-impl State {
-    pub fn of(device: &Device) -> Self {
+impl From<&Device> for State {
+    fn from(device: &Device) -> Self {
         State {
             queue: device.queue,
             counters: counters_of(device),
@@ -71,7 +71,7 @@ fn floats_of(device: &Device) -> [Option<u64>; 9] {
     ]
 }
 
-// The bits of a number, so that 0 and -0 are apart; a NaN has none.
+// A NaN has none, so that all of them are alike.
 fn bits(x: f64) -> Option<u64> {
     if x.is_nan() { None } else { Some(x.to_bits()) }
 }

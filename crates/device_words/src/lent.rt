@@ -1,4 +1,4 @@
-// Calls on a device over lent memory.
+// Calls on a device over lent memory. By value: the form that document 01 gives the calls.
 use device::{Arrived, Device};
 use numbers::Refusal;
 use options::DirectionConfig;

@@ -1,4 +1,4 @@
-// The line of a creation: the name of a case and what the calls answer.
+// The line of a creation: the name of a case, what the calls answer, and between the answers the generator's state.
 use crate::engines;
 use engine_words::Decided;
 use options::DirectionConfig;

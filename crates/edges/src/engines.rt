@@ -24,6 +24,5 @@ pub fn engine_of<F: FnOnce(&mut DirectionConfig)>(alter: F) -> ArrivalEngine
 
 // The engine of the default settings.
 pub fn default_engine() -> ArrivalEngine {
-    let (engine, _) = ArrivalEngine::new(DirectionConfig::default(), 1);
-    engine
+    engine_of(|_| ())
 }

@@ -6,8 +6,8 @@ use engine::ArrivalEngine;
 use std::io;
 use std::io::Write;
 
-// The least number that no counter may have.
-const COUNTER_LIMIT: u64 = 0x1000_0000_0000_0000;
+// The least number that no counter may have, 2^60: the tests' own figure, written apart from the code on purpose.
+pub const COUNTER_LIMIT: u64 = 0x1000_0000_0000_0000;
 
 // The last instant, and the float behind it.
 const LAST_INSTANT: f64 = 9007199254740992.0;

@@ -1,13 +1,11 @@
 // States that are handed in: whatever they are, the answer is document 01's.
 use crate::case::Case;
 use crate::engines::{default_engine, engine_of};
+use crate::order::COUNTER_LIMIT;
 use engine::ArrivalEngine;
 use options::{DirectionConfig, Ge};
 use std::io;
 use std::io::Write;
-
-// The greatest number that a counter may have.
-const GREATEST_COUNTER: u64 = 0x0fff_ffff_ffff_ffff;
 
 pub fn say<W: Write>(out: &mut W) -> io::Result<()> {
     say_credits(out)?;
@@ -15,7 +13,7 @@ pub fn say<W: Write>(out: &mut W) -> io::Result<()> {
     say_zero_generators(out)?;
     say_next_rebinds(out)?;
     let mut engine = default_engine();
-    engine.stats.received_pkts = GREATEST_COUNTER;
+    engine.stats.received_pkts = COUNTER_LIMIT - 1;
     Case::new("received 2^60-1", engine).say_two_arrivals(out)
 }
 

@@ -8,7 +8,8 @@ ghost use Rattle.engine.specs.Laws.Counts.{Single};
 use accounts::DirectionStats;
 use steps::{Arrival, Decision};
 
-// By how much each counter of a decision grows, 0 or 1.
+// By how much each counter of a decision grows, 0 or 1. Numbers to be added, as in the definition, and no step for each case: that at most one of them is 1 is
+// said of the record (`Single`).
 #[derive(Clone, Copy)]
 pub struct DecisionCounts {
     pub random: u64,

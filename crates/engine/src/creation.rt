@@ -9,7 +9,7 @@ use draws::Rng;
 use numbers::Refusal;
 use options::DirectionConfig;
 
-// The instant of the first rebind; without a period it never comes.
+// The instant of the first rebind; without a period it never comes, and the instant is infinite, as in the source.
 #[tactic(auto, unfolding(crate::specs::Engine::next_rebind_of))]
 fn next_rebind(nat_change_every_ms: u64) -> f64
     ensures { result ≡ next_rebind_of nat_change_every_ms }

@@ -3,12 +3,12 @@ ghost use Rattle.std.specs.Prelude.{◌≡◌, ◌≤◌};
 ghost use Rattle.numbers.specs.Limits.{max_length};
 ghost use Rattle.accounts.specs.Laws.Small.{SmallStats};
 ghost use Rattle.engine.specs.Decide.{decide_passed_of};
-ghost use Rattle.engine.specs.Calls.{decide_given_of, decide_of, decide_unchecked_of};
+ghost use Rattle.engine.specs.Calls.{decide_of, decide_unchecked_of};
 
 use crate::counts::count;
 use crate::engine::ArrivalEngine;
 use crate::windows::gate_at;
-use numbers::Refusal;
+use numbers::{Refusal, check};
 use steps::{ArrivalState, Decision};
 
 impl ArrivalEngine {
@@ -48,27 +48,17 @@ impl ArrivalEngine {
         arrival.decision
     }
 
-    // The decision for settings that pass 29 or not, or a refusal by 29, 21, 22 or 25.
-    #[tactic(auto, unfolding(crate::specs::Calls::decide_given_of))]
-    fn decide_given(&mut self, settings: bool, now_ms: f64, len: usize) -> Result<Decision, Refusal>
-        ensures decided { (self.new, result) ≡ decide_given_of settings self.old now_ms len }
-        ensures kept { self.new.cfg ≡ self.old.cfg }
-    {
-        self.judged_given(
-            settings,
-            numbers::is_instant(now_ms),
-            numbers::is_length(len),
-        )?;
-        Ok(self.decide_passed(now_ms, len))
-    }
-
     // Drops the packet, enqueues it or resets its connection, or refuses by 21, 22 or 25, for an engine whose settings were judged when it was made. In place, for
     // a device, whose settings are too long to be copied with each arrival.
+    #[tactic(auto, unfolding(crate::specs::Calls::decide_given_of, crate::specs::Refusals::judged_given_of, numbers::specs::Checks::first_refusal, numbers::specs::Checks::check_of))]
     pub fn decide_in_place(&mut self, now_ms: f64, len: usize) -> Result<Decision, Refusal>
         ensures decided { (self.new, result) ≡ decide_unchecked_of self.old now_ms len }
         ensures kept { self.new.cfg ≡ self.old.cfg }
     {
-        self.decide_given(true, now_ms, len)
+        check(numbers::is_instant(now_ms), Refusal::Instant)?;
+        check(numbers::is_length(len), Refusal::Length)?;
+        self.judge_counters()?;
+        Ok(self.decide_passed(now_ms, len))
     }
 
     // The same on an engine that goes by value.
@@ -81,12 +71,13 @@ impl ArrivalEngine {
     }
 
     // The same in place, with the settings judged by 29 first.
+    #[tactic(auto, unfolding(crate::specs::Calls::decide_given_of, crate::specs::Refusals::judged_given_of, numbers::specs::Checks::first_refusal, numbers::specs::Checks::check_of))]
     pub fn decide_judged_in_place(&mut self, now_ms: f64, len: usize) -> Result<Decision, Refusal>
         ensures decided { (self.new, result) ≡ decide_of self.old now_ms len }
         ensures kept { self.new.cfg ≡ self.old.cfg }
     {
-        let settings = judgement::is_settings(&self.cfg);
-        self.decide_given(settings, now_ms, len)
+        self.judge_settings()?;
+        self.decide_in_place(now_ms, len)
     }
 
     // The same on an engine that goes by value.

@@ -3,7 +3,7 @@ use draws::Rng;
 use options::DirectionConfig;
 
 // The settings of a direction, what the arrivals so far have left, and their counts. Document 01 gives calls on it this form: it goes in by value and comes back
-// beside the answer. Those that a device makes stand over one in place, which copies no settings.
+// beside the answer. Each call that changes it stands over one in place, which copies no settings.
 #[derive(Clone, Copy)]
 pub struct ArrivalEngine {
     pub cfg: DirectionConfig,

@@ -7,11 +7,12 @@ use numbers::Refusal;
 
 impl ArrivalEngine {
     // Counts the copy.
-    #[tactic(auto, unfolding(crate::specs::Calls::stats_inc_overflow_of, crate::specs::Changes::with_overflow, crate::specs::Changes::with_others))]
+    #[tactic(auto, unfolding(crate::specs::Calls::stats_inc_overflow_of, crate::specs::Changes::with_overflow, crate::specs::Changes::with_others, crate::specs::Refusals::judged_given_of, numbers::specs::Checks::first_refusal, numbers::specs::Checks::check_of))]
     fn overflowed(&mut self) -> Result<(), Refusal>
         ensures { (self.new, result) ≡ stats_inc_overflow_of self.old }
     {
-        self.judged(true, true)?;
+        self.judge_settings()?;
+        self.judge_counters()?;
         self.stats.dropped_overflow += 1;
         Ok(())
     }

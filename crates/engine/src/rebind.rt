@@ -11,7 +11,7 @@ impl ArrivalEngine {
     pub fn should_rebind_now_in_place(&mut self, now_ms: f64) -> Result<bool, Refusal>
         ensures { (self.new, result) ≡ should_rebind_now_of self.old now_ms }
     {
-        self.judged(numbers::is_instant(now_ms), true)?;
+        self.judge_instant(now_ms)?;
         if now_ms >= self.next_rebind_ms {
             self.rebinds_done += 1;
             self.stats.nat_rebinds = self.rebinds_done;

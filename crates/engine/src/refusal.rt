@@ -1,10 +1,13 @@
 // Which refusal meets a call.
 ghost use Rattle.std.specs.Prelude.{◌≡◌, OnOk};
-ghost use Rattle.engine.specs.Refusals.{counters_pass, judged_given_of, judged_of};
+ghost use Rattle.numbers.specs.Checks.{check_of};
+ghost use Rattle.numbers.specs.declared.refusal.Refusal.TheVariants.{Settings, Counter};
+ghost use Rattle.judgement.specs.Settings.{is_settings_of};
+ghost use Rattle.engine.specs.Refusals.{counters_pass, instant_refusal};
 ghost use Rattle.engine.specs.Laws.Refusals.{Counted};
 
 use crate::engine::ArrivalEngine;
-use numbers::Refusal;
+use numbers::{Refusal, check};
 
 impl ArrivalEngine {
     // Whether refusal 25 lets the counters through.
@@ -14,28 +17,29 @@ impl ArrivalEngine {
         numbers::is_counter(self.rebinds_done) & self.stats.in_range()
     }
 
-    // Refuses a call whose settings, instant or length does not pass, or whose counters do not, in document 01's order.
-    #[tactic(auto, unfolding(crate::specs::Refusals::judged_given_of, numbers::specs::Checks::first_refusal, numbers::specs::Checks::check_of))]
-    pub(crate) fn judged_given(
-        &self,
-        settings: bool,
-        instant: bool,
-        short: bool,
-    ) -> Result<(), Refusal>
-        ensures refusal { result ≡ judged_given_of settings self.now instant short }
+    // Refuses a call by 25, which every call judges last.
+    pub(crate) fn judge_counters(&self) -> Result<(), Refusal>
+        ensures refusal { result ≡ check_of (counters_pass self.now) Counter }
         ensures counted { OnOk result (Counted self.now) }
     {
-        numbers::check(settings, Refusal::Settings)?;
-        numbers::check(instant, Refusal::Instant)?;
-        numbers::check(short, Refusal::Length)?;
-        numbers::check(self.in_range(), Refusal::Counter)
+        check(self.in_range(), Refusal::Counter)
     }
 
-    // The same with the settings judged by 29.
-    pub(crate) fn judged(&self, instant: bool, short: bool) -> Result<(), Refusal>
-        ensures refusal { result ≡ judged_of self.now instant short }
+    // Refuses a call by 29.
+    pub(crate) fn judge_settings(&self) -> Result<(), Refusal>
+        ensures { result ≡ check_of (is_settings_of self.now.cfg) Settings }
+    {
+        check(judgement::is_settings(&self.cfg), Refusal::Settings)
+    }
+
+    // Refuses a call that has an instant, by 29, 21 or 25.
+    #[tactic(auto, unfolding(crate::specs::Refusals::judged_given_of, numbers::specs::Checks::first_refusal, numbers::specs::Checks::check_of))]
+    pub(crate) fn judge_instant(&self, now_ms: f64) -> Result<(), Refusal>
+        ensures refusal { result ≡ instant_refusal self.now now_ms }
         ensures counted { OnOk result (Counted self.now) }
     {
-        self.judged_given(judgement::is_settings(&self.cfg), instant, short)
+        self.judge_settings()?;
+        check(numbers::is_instant(now_ms), Refusal::Instant)?;
+        self.judge_counters()
     }
 }

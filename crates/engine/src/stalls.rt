@@ -13,7 +13,7 @@ impl ArrivalEngine {
     pub fn rst_now(&self, now_ms: f64) -> Result<bool, Refusal>
         ensures { result ≡ rst_now_of self.now now_ms }
     {
-        self.judged(numbers::is_instant(now_ms), true)?;
+        self.judge_instant(now_ms)?;
         Ok(kill_at(&self.cfg, KillStyle::Rst, now_ms))
     }
 
@@ -22,7 +22,7 @@ impl ArrivalEngine {
     pub fn hold_now(&self, now_ms: f64) -> Result<bool, Refusal>
         ensures { result ≡ hold_now_of self.now now_ms }
     {
-        self.judged(numbers::is_instant(now_ms), true)?;
+        self.judge_instant(now_ms)?;
         Ok(kill_at(&self.cfg, KillStyle::Hold, now_ms) | blackout_at(&self.cfg, now_ms))
     }
 }

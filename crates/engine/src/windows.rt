@@ -4,15 +4,23 @@ ghost use Rattle.steps.specs.Gate.{kill_gate_of, any_window_of, is_rst_of, kill_
 ghost use Rattle.engine.specs.Engine.{gate_at_of};
 
 use options::DirectionConfig;
-use settings::KillStyle;
+use settings::{KillStyle, TcpKill};
 use steps::Gate;
+use values::front;
+
+// The counted kills.
+fn kills(cfg: &DirectionConfig) -> &[TcpKill]
+    ensures { result.now ≡ take cfg.now.tcp_kill_count cfg.now.tcp_kills }
+{
+    front(&cfg.tcp_kills, cfg.tcp_kill_count)
+}
 
 // What the kills say of the instant.
 #[tactic(auto, unfolding(steps::specs::Gate::kill_gate_of))]
 fn kills_at(cfg: &DirectionConfig, now_ms: f64) -> Gate
     ensures { result ≡ kill_gate_of (take cfg.now.tcp_kill_count cfg.now.tcp_kills) now_ms }
 {
-    steps::kill_gate(&cfg.tcp_kills, cfg.tcp_kill_count, now_ms)
+    steps::kill_gate(kills(cfg), now_ms)
 }
 
 // Whether a blackout holds the instant.
@@ -20,7 +28,7 @@ fn kills_at(cfg: &DirectionConfig, now_ms: f64) -> Gate
 pub(crate) fn blackout_at(cfg: &DirectionConfig, now_ms: f64) -> bool
     ensures { result ≡ any_window_of (take cfg.now.blackout_count cfg.now.blackouts) now_ms }
 {
-    steps::any_window(&cfg.blackouts, cfg.blackout_count, now_ms)
+    steps::any_window(front(&cfg.blackouts, cfg.blackout_count), now_ms)
 }
 
 // What the windows say of the instant: the kills first, then the blackouts.
@@ -39,5 +47,5 @@ pub(crate) fn gate_at(cfg: &DirectionConfig, now_ms: f64) -> Gate
 pub(crate) fn kill_at(cfg: &DirectionConfig, style: KillStyle, now_ms: f64) -> bool
     ensures { result ≡ kill_now_of (is_rst_of style) (take cfg.now.tcp_kill_count cfg.now.tcp_kills) now_ms }
 {
-    steps::kill_now(&cfg.tcp_kills, cfg.tcp_kill_count, style, now_ms)
+    steps::kill_now(kills(cfg), style, now_ms)
 }

@@ -1,6 +1,6 @@
 // The counters of DirectionStats as words, each behind a blank.
 use accounts::DirectionStats;
-use output::Counts;
+use output::Each;
 use std::fmt;
 
 // The packets that came, and their bytes.
@@ -18,7 +18,7 @@ pub struct Others<'a>(pub &'a DirectionStats);
 impl<'a> fmt::Display for Received<'a> {
     fn fmt<W: fmt::Write>(&self, f: &mut fmt::Formatter<W>) -> fmt::Result {
         let counts = [self.0.received_pkts, self.0.received_bytes];
-        write!(f, "{}", Counts(&counts))
+        write!(f, "{}", Each(&counts))
     }
 }
 
@@ -31,7 +31,7 @@ impl<'a> fmt::Display for Dropped<'a> {
             self.0.dropped_blackout,
             self.0.dropped_overflow,
         ];
-        write!(f, "{}", Counts(&counts))
+        write!(f, "{}", Each(&counts))
     }
 }
 
@@ -43,6 +43,6 @@ impl<'a> fmt::Display for Others<'a> {
             self.0.rate_deferred,
             self.0.nat_rebinds,
         ];
-        write!(f, "{}", Counts(&counts))
+        write!(f, "{}", Each(&counts))
     }
 }

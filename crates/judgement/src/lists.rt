@@ -1,5 +1,5 @@
 // The lists of a direction: entries that are not counted may be anything.
-// A function for both would be longer than the two, since it would take the list, its count and the test of an entry.
+// Not one function of list, count and test, since its clause would have to speak of the closure, and each body is two lines.
 ghost use Rattle.std.specs.Prelude.{◌≡◌};
 ghost use Rattle.settings.specs.Judgement.{is_window, is_kill, is_list};
 

@@ -2,10 +2,10 @@
 ghost use Rattle.std.specs.Prelude.{◌≡◌};
 ghost use Rattle.judgement.specs.Scalars.{are_scalars_of};
 
-use crate::setting::{is_bounded, is_ge, is_mtu, is_probability, is_rate, is_time};
+use crate::setting::{is_bounded, is_ge, is_limit, is_probability, is_time};
 use options::DirectionConfig;
 
-// Whether refusal 29 lets all of them through. The tests are joined by `&`: with `&&` each joint would need a proof by hand.
+// Whether refusal 29 lets all of them through. Joined by `&`: with `&&` the proof does not close but by hand, joint by joint.
 pub(crate) fn are_scalars(cfg: &DirectionConfig) -> bool
     ensures { result ≡ are_scalars_of cfg.now }
 {
@@ -16,8 +16,8 @@ pub(crate) fn are_scalars(cfg: &DirectionConfig) -> bool
         & is_probability(cfg.reorder_p)
         & is_time(cfg.reorder_delay_ms)
         & is_probability(cfg.duplicate_p)
-        & is_rate(cfg.rate_bps)
+        & is_limit(cfg.rate_bps)
         & is_bounded(cfg.rate_burst_bytes)
-        & is_mtu(cfg.mtu)
+        & is_limit(cfg.mtu.map(|most| most as u64))
         & is_bounded(cfg.nat_change_every_ms)
 }

@@ -2,7 +2,7 @@
 ghost use Rattle.std.specs.Prelude.{◌≡◌};
 ghost use Rattle.values.specs.Whole.{is_bounded};
 ghost use Rattle.settings.specs.Judgement.{is_within, is_probability, is_time, is_positive, is_ge, is_window};
-ghost use Rattle.judgement.specs.Scalars.{is_rate, is_mtu};
+ghost use Rattle.judgement.specs.Scalars.{is_limit};
 
 use numbers::MAX_EXACT;
 use settings::{Ge, Window};
@@ -49,17 +49,11 @@ pub(crate) fn is_ge(ge: Option<Ge>) -> bool
     ge.is_none_or(|g| is_probability(g.p) && is_probability(g.r) && is_probability(g.h))
 }
 
-// A rate is a u64 and an MTU a usize, so that one function of both would be longer than the two.
-pub(crate) fn is_rate(rate: Option<u64>) -> bool
-    ensures { result ≡ is_rate rate }
+// A limit that is set is not 0, and at most 2^53.
+pub(crate) fn is_limit(limit: Option<u64>) -> bool
+    ensures { result ≡ is_limit limit }
 {
-    rate.is_none_or(is_positive)
-}
-
-pub(crate) fn is_mtu(mtu: Option<usize>) -> bool
-    ensures { result ≡ is_mtu mtu }
-{
-    mtu.is_none_or(|most| is_positive(most as u64))
+    limit.is_none_or(is_positive)
 }
 
 // It ends after its start, and both bounds are at most 2^53; the start is, where the later end is.

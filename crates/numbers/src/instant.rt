@@ -8,5 +8,5 @@ const LAST_INSTANT: f64 = 9007199254740992.0;
 pub fn is_instant(t: f64) -> bool
     ensures { result ≡ is_instant_of t }
 {
-    t <= LAST_INSTANT && f64::to_bits(t) < 0x8000_0000_0000_0000
+    t <= LAST_INSTANT && !t.is_sign_negative()
 }

@@ -1,4 +1,4 @@
-// Arithmetic, limits and numbers of refusals that the layers above share.
+// Arithmetic, limits and refusals that the layers above share.
 #![tactic(auto)]
 
 mod checks;

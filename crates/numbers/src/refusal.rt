@@ -72,12 +72,12 @@ pub enum Refusal {
 #[derive(Clone, Copy, Debug, PartialEq, Eq, Hash)]
 pub struct UnknownRefusal(pub u32);
 
-impl Refusal {
-    // The number that stands for the reason.
-    pub fn number(self) -> u32
-        ensures { result ≡ number_of self }
-    {
-        self as u32
+// The number that stands for the reason.
+impl From<Refusal> for u32 {
+    ghost from_gives = { λ refusal number. number ≡ number_of refusal };
+
+    fn from(refusal: Refusal) -> u32 {
+        refusal as u32
     }
 }
 

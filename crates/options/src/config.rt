@@ -4,9 +4,10 @@ ghost use Rattle.options.specs.Config.{default_direction, default_config};
 
 use crate::mode::Mode;
 use numbers::MAX_ENTRIES;
-use settings::{Ge, TcpKill, Window, no_kill, no_window};
+use settings::{Entry, Ge, TcpKill, Window};
 
 // What a direction does to its packets; of the two lists only the counted entries are settings. Document 01 has them as arrays of 128 with a count.
+// A burst or a period of 0 is one that is not set, as in the source.
 #[derive(Clone, Copy)]
 pub struct DirectionConfig {
     pub loss: f64,
@@ -26,7 +27,7 @@ pub struct DirectionConfig {
     pub tcp_kill_count: usize,
 }
 
-// By hand, since a derived `default` has no clause.
+// By hand: a derive asks windows and kills for a `Default`, which the source does not give them.
 #[tactic(auto, using(numbers::specs::Laws::Literals::zero_is), unfolding(crate::specs::Config::default_direction, crate::specs::Config::direction_with))]
 impl Default for DirectionConfig {
     ghost is_default = { λ d. d ≡ default_direction };
@@ -44,10 +45,10 @@ impl Default for DirectionConfig {
             rate_bps: None,
             rate_burst_bytes: 0,
             mtu: None,
-            blackouts: [no_window(); MAX_ENTRIES],
+            blackouts: [Window::empty(); MAX_ENTRIES],
             blackout_count: 0,
             nat_change_every_ms: 0,
-            tcp_kills: [no_kill(); MAX_ENTRIES],
+            tcp_kills: [TcpKill::empty(); MAX_ENTRIES],
             tcp_kill_count: 0,
         }
     }
@@ -71,7 +72,7 @@ pub struct Config {
     pub s2c: DirectionConfig,
 }
 
-// By hand, since a derived `default` has no clause.
+// By hand as in the source: the seed and the capacity are not 0.
 #[tactic(auto, unfolding(crate::specs::Config::default_config))]
 impl Default for Config {
     ghost is_default = { λ c. c ≡ default_config };

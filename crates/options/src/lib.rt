@@ -1,4 +1,4 @@
-// The option text of config.rs: the settings that it gives, or the number of the refusal.
+// The option text of config.rs: the settings that it gives, or the refusal.
 #![tactic(auto)]
 
 mod config;
@@ -13,7 +13,7 @@ mod scalars;
 mod schedules;
 
 pub use config::{Config, DirectionConfig};
-pub use limits::default_burst;
+pub use limits::{burst_of, default_burst};
 pub use mode::Mode;
 pub use parse::parse_config;
 pub use settings::{Ge, KillStyle, TcpKill, Window};

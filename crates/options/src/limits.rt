@@ -27,7 +27,7 @@ pub fn default_burst(bps: u64) -> u64
 
 // The burst that was set, or else the rate's own.
 #[tactic(auto, unfolding(crate::specs::Directions::burst_of))]
-fn burst_of(burst: u64, rate: Option<u64>) -> u64
+pub fn burst_of(burst: u64, rate: Option<u64>) -> u64
     ensures { result ≡ burst_of burst rate }
 {
     match rate {

@@ -13,16 +13,14 @@ pub enum Mode {
 }
 
 impl Mode {
-    // By `==`, since the proof does not close with a match of byte strings.
+    // No `TryFrom`: the source reads windows and kill styles by a `parse`, and this follows.
     pub fn parse(v: &[u8]) -> Result<Mode, Refusal>
         ensures { result ≡ parse_mode_of v.now }
     {
-        if v == b"udp".as_slice() {
-            Ok(Mode::Udp)
-        } else if v == b"tcp".as_slice() {
-            Ok(Mode::Tcp)
-        } else {
-            Err(Refusal::Mode)
+        match v {
+            b"udp" => Ok(Mode::Udp),
+            b"tcp" => Ok(Mode::Tcp),
+            _ => Err(Refusal::Mode),
         }
     }
 }

@@ -70,7 +70,8 @@ fn config_of(text: &[u8]) -> Result<Config, Refusal>
     })
 }
 
-// The settings that a text of any bytes gives; beside a refusal `Config::default`, so that every answer has settings that refusal 29 lets through.
+// The settings that a text of any bytes gives. Beside a refusal stands `Config::default`, as document 01 has it, so that every answer has settings that refusal
+// 29 lets through.
 #[tactic(auto, unfolding(crate::specs::Parse::parse_of))]
 pub fn parse_config(text: &[u8]) -> (Config, Result<(), Refusal>)
     ensures { result ≡ parse_of text.now }

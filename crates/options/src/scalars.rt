@@ -17,7 +17,7 @@ pub struct LineScalars {
     pub verbose: bool,
 }
 
-// Whether a value of verbose turns it on. One by one, since the proof closes neither with a match of byte strings nor with `||`.
+// Whether a value of verbose turns it on. One by one, since the proof closes neither with a match of byte strings of several lengths nor with `||`.
 fn says_yes(v: &[u8]) -> bool
     ensures { result ≡ yes_of v.now }
 {

@@ -14,7 +14,7 @@ impl<T: fmt::Display> fmt::Display for Answered<T> {
     fn fmt<W: fmt::Write>(&self, f: &mut fmt::Formatter<W>) -> fmt::Result {
         match &self.0 {
             Ok(given) => write!(f, "{given}"),
-            Err(refusal) => write!(f, "refused {}", refusal.number()),
+            Err(refusal) => write!(f, "refused {}", u32::from(*refusal)),
         }
     }
 }

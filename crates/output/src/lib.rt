@@ -1,12 +1,12 @@
-// What the programs' words need beyond the standard library: floats by their bits, counts, and answers that may be refusals.
+// What the programs' words need beyond the standard library: floats by their bits, lists, and answers that may be refusals.
 #![tactic(auto)]
 
 mod answered;
 mod bits;
-mod counts;
+mod each;
 mod said;
 
 pub use answered::Answered;
 pub use bits::Bits;
-pub use counts::Counts;
+pub use each::Each;
 pub use said::say;

@@ -1,5 +1,5 @@
 -- Which refusal meets a call, in document 01's order (section "Who can cause a refusal"); 29 is not the queue's. 26 stands where what is found is out of keeping.
-use Rattle.std.specs.Prelude.{Bool, true, not, ◌&&◌, List, [], ◌∷◌, ℕ, ◌*◌, leb, eqb, Float, length, Result}
+use Rattle.std.specs.Prelude.{Bool, true, not, ◌&&◌, List, [], ◌∷◌, ℕ, ◌+◌, ◌*◌, ◌^◌, ◌<◌, leb, eqb, Float, length, Result}
 use Rattle.std.specs.Float.Ieee.{is_nan}
 use Rattle.numbers.specs.Checks.{Test, test, first_refusal}
 use Rattle.numbers.specs.Instant.{is_instant_of}
@@ -43,6 +43,10 @@ room_of width cap s =
 
 unfoldable pub memory_of : ℕ → ℕ → Tables → Bool
 memory_of width cap t = room_of width cap (sizes_of t)
+
+-- so many copies more can be counted
+abbrev pub RoomFor : ℕ → ImpairQueue → Type 0
+RoomFor n q = (q.held + n < 2 ^ 32) × (q.next_seq + n < 2 ^ 64)
 
 -- held ≤ opened ≤ leaves ≤ capacity ≤ 1,048,576
 unfoldable pub in_keeping : ImpairQueue → Bool

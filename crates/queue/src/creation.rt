@@ -56,7 +56,7 @@ impl ImpairQueue {
     pub fn drain(self) -> (ImpairQueue, Result<usize, Refusal>)
         ensures { result ≡ drain_of self }
     {
-        match self.judge_state(true) {
+        match self.judge_state() {
             Ok(()) => (empty(self.cap, self.next_seq), Ok(self.held as usize)),
             Err(refusal) => (self, Err(refusal)),
         }

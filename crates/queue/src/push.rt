@@ -3,8 +3,8 @@ ghost use Rattle.std.specs.Prelude.{◌≡◌, ◌+◌, ◌<◌, ◌≤◌, ◌^
 ghost use Rattle.tournament.specs.Trees.{SameTables};
 ghost use Rattle.queue.specs.Tables.{after};
 ghost use Rattle.queue.specs.Lent.{entry_tables, SameRows};
-ghost use Rattle.queue.specs.Refusals.{slot_width};
-ghost use Rattle.queue.specs.Calls.{told_by, next_slot, one_more, enter_copy_of, enter_copies_of, push_of};
+ghost use Rattle.queue.specs.Refusals.{slot_width, RoomFor};
+ghost use Rattle.queue.specs.Calls.{next_slot, one_more, enter_copy_of, enter_copies_of, push_of};
 
 use crate::answers::Entered;
 use crate::queue::ImpairQueue;
@@ -15,15 +15,6 @@ use tournament::TreeMut;
 
 // The copy id of the second copy.
 const SECOND_COPY_ID: u32 = 1;
-
-// The answer after the last copy, of so many: 26 where it did not enter.
-#[tactic(auto, unfolding(crate::specs::Calls::told_by))]
-fn told(last: Result<(), Refusal>, seq: u64, copies: u32) -> Result<Entered, Refusal>
-    ensures { result ≡ told_by last seq copies }
-{
-    last?;
-    Ok(Entered { seq, copies })
-}
 
 impl ImpairQueue {
     // The slot that the next copy takes: the last that a copy left, or the first that was never used.
@@ -41,7 +32,7 @@ impl ImpairQueue {
 
     // The state with one copy more.
     fn one_more(self, leaves: u32) -> ImpairQueue
-        requires { (self.held + 1 < 2 ^ 32) × (self.next_seq + 1 < 2 ^ 64) }
+        requires { RoomFor 1 self }
         ensures { result ≡ one_more self leaves }
     {
         let held = self.held + 1;
@@ -63,7 +54,7 @@ impl ImpairQueue {
         packet: Packet,
         bytes: &[u8],
     ) -> (ImpairQueue, Result<(), Refusal>)
-        requires { (self.held ≤ self.opened) × (self.held + 1 < 2 ^ 32) × (self.next_seq + 1 < 2 ^ 64) × (length bytes.now < 2 ^ 32) }
+        requires { (self.held ≤ self.opened) × RoomFor 1 self × (length bytes.now < 2 ^ 32) }
         ensures counted { (result.0.held ≤ result.0.opened) × (result.0.held ≤ self.held + 1) × (result.0.next_seq ≤ self.next_seq + 1) }
         ensures entered { after result (entry_tables tree.new free.now rows.new) ≡ enter_copy_of slot_width self (entry_tables tree.old free.now rows.old) packet.due_ms packet.arrival_ms packet.route packet.copy_id bytes.now }
         ensures same { SameTables tree.old tree.new × SameRows rows.old rows.new }
@@ -87,7 +78,7 @@ impl ImpairQueue {
         packet: Packet,
         bytes: &[u8],
     ) -> (ImpairQueue, Result<Entered, Refusal>)
-        requires { (self.held ≤ self.opened) × (self.held + 2 < 2 ^ 32) × (self.next_seq + 2 < 2 ^ 64) × (length bytes.now < 2 ^ 32) }
+        requires { (self.held ≤ self.opened) × RoomFor 2 self × (length bytes.now < 2 ^ 32) }
         ensures entered { after result (entry_tables tree.new free.now rows.new) ≡ enter_copies_of slot_width self (entry_tables tree.old free.now rows.old) packet.due_ms packet.arrival_ms packet.route packet.copy_id packet.duplicated bytes.now }
         ensures same { SameTables tree.old tree.new × SameRows rows.old rows.new }
     {
@@ -95,14 +86,14 @@ impl ImpairQueue {
         let (queue, first) = self.enter_copy(tree, free, rows, packet, bytes);
         let again = first.is_ok() & packet.duplicated & (queue.held != queue.cap);
         if !again {
-            return (queue, told(first, seq, 1));
+            return (queue, first.map(|()| Entered { seq, copies: 1 }));
         }
         let second = Packet {
             copy_id: SECOND_COPY_ID,
             ..packet
         };
         let (queue, last) = queue.enter_copy(tree, free, rows, second, bytes);
-        (queue, told(last, seq, 2))
+        (queue, last.map(|()| Entered { seq, copies: 2 }))
     }
 
     // The copies of a packet enter: the first with the next seq and the copy id; if it is duplicated, a second with the seq after it and copy id 1, unless

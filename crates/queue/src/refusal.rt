@@ -1,5 +1,5 @@
 // Which refusal meets a call.
-ghost use Rattle.std.specs.Prelude.{◌≡◌};
+ghost use Rattle.std.specs.Prelude.{◌≡◌, true};
 ghost use Rattle.queue.specs.Refusals.{slot_width, room_of, in_keeping, state_refusal, push_refusal, release_refusal};
 
 use crate::queue::ImpairQueue;
@@ -27,29 +27,27 @@ impl ImpairQueue {
             & (self.held <= self.opened)
     }
 
-    // The refusal that memory and state give, given whether the lent memory has room.
+    // The refusal that the state gives, after the tests of what is handed in.
     #[tactic(auto, unfolding(crate::specs::Refusals::state_refusal, numbers::specs::Checks::first_refusal, numbers::specs::Checks::check_of))]
-    pub(crate) fn judge_state(self, memory: bool) -> Result<(), Refusal>
-        ensures { result ≡ state_refusal self memory }
+    pub(crate) fn judge_state(self) -> Result<(), Refusal>
+        ensures { result ≡ state_refusal self true }
     {
-        check(memory, Refusal::Memory)?;
         check(numbers::is_counter(self.next_seq), Refusal::Counter)?;
         check(self.in_keeping(), Refusal::Keeping)
     }
 
     // The refusal that meets a release.
-    #[tactic(auto, unfolding(crate::specs::Refusals::release_refusal, numbers::specs::Checks::first_refusal, numbers::specs::Checks::check_of))]
+    #[tactic(auto, unfolding(crate::specs::Refusals::release_refusal, crate::specs::Refusals::state_refusal, numbers::specs::Checks::first_refusal, numbers::specs::Checks::check_of))]
     pub(crate) fn judge_release(self, memory: bool, now_ms: f64) -> Result<(), Refusal>
         ensures { result ≡ release_refusal self memory now_ms }
     {
         check(memory, Refusal::Memory)?;
         check(numbers::is_instant(now_ms), Refusal::Instant)?;
-        check(numbers::is_counter(self.next_seq), Refusal::Counter)?;
-        check(self.in_keeping(), Refusal::Keeping)
+        self.judge_state()
     }
 
     // The refusal that meets a push of so many bytes. What was altered is judged before a full queue is told.
-    #[tactic(auto, unfolding(crate::specs::Refusals::push_refusal, numbers::specs::Checks::first_refusal, numbers::specs::Checks::check_of))]
+    #[tactic(auto, unfolding(crate::specs::Refusals::push_refusal, crate::specs::Refusals::state_refusal, numbers::specs::Checks::first_refusal, numbers::specs::Checks::check_of))]
     pub(crate) fn judge_push(
         self,
         memory: bool,
@@ -62,8 +60,7 @@ impl ImpairQueue {
         check(numbers::is_instant(packet.arrival_ms), Refusal::Instant)?;
         check(length <= SLOT_WIDTH as usize, Refusal::Length)?;
         check(!packet.due_ms.is_nan(), Refusal::Due)?;
-        check(numbers::is_counter(self.next_seq), Refusal::Counter)?;
-        check(self.in_keeping(), Refusal::Keeping)?;
+        self.judge_state()?;
         check(self.held != self.cap, Refusal::Full)
     }
 }

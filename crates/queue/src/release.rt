@@ -1,8 +1,8 @@
 // How the least copy leaves.
-ghost use Rattle.std.specs.Prelude.{◌≡◌, ◌<◌, ◌≤◌};
+ghost use Rattle.std.specs.Prelude.{◌≡◌, ◌<◌, ◌≤◌, Some, Ok};
 ghost use Rattle.tournament.specs.Trees.{SameTables};
 ghost use Rattle.queue.specs.Tables.{after};
-ghost use Rattle.queue.specs.Lent.{seen_tables, exit_tables};
+ghost use Rattle.queue.specs.Lent.{exit_tables};
 ghost use Rattle.queue.specs.Refusals.{slot_width};
 ghost use Rattle.queue.specs.Calls.{queued_of, one_less, left_of, release_of};
 
@@ -49,15 +49,15 @@ impl ImpairQueue {
         free: &mut [u32],
         rows: Rows<'_>,
         slot: u32,
-    ) -> (ImpairQueue, Result<Option<Queued>, Refusal>)
+    ) -> (ImpairQueue, Queued)
         requires { (0 < self.held) × (self.held ≤ self.opened) }
-        ensures released { after result (exit_tables tree.new free.new rows.entry) ≡ left_of self (exit_tables tree.old free.old rows.entry) slot }
+        ensures released { after (result.0, Ok (Some result.1)) (exit_tables tree.new free.new rows.entry) ≡ left_of self (exit_tables tree.old free.old rows.entry) slot }
         ensures same { SameTables tree.old tree.new }
     {
         let copy = queued(tree.shared(), rows, slot);
         tables::set(free, (self.opened - self.held) as usize, slot);
         tree.leave(self.leaves, slot);
-        (self.one_less(), Ok(Some(copy)))
+        (self.one_less(), copy)
     }
 
     // The least copy with a due of at most `now_ms` leaves; none due, or a refusal by 23, 21, 25 or 26.
@@ -85,7 +85,8 @@ impl ImpairQueue {
             return (self, Err(Refusal::Keeping));
         }
         if seen.due(root) <= now_ms {
-            return self.release_slot(tree, free, rows, root);
+            let (state, copy) = self.release_slot(tree, free, rows, root);
+            return (state, Ok(Some(copy)));
         }
         (self, Ok(None))
     }

@@ -6,8 +6,8 @@ ghost use Rattle.queue.specs.Refusals.{slot_width};
 
 use crate::store::SLOT_WIDTH;
 
-// The packet of which copies enter; its bytes come beside it, since they go into the store.
-#[derive(Clone, Copy)]
+// The packet of which copies enter. Its bytes come beside it: with them in the struct each signature would name their lifetime, and none would be shorter.
+#[derive(Clone, Copy, Debug, PartialEq)]
 pub struct Packet {
     pub due_ms: f64,
     pub arrival_ms: f64,

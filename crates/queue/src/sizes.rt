@@ -38,7 +38,7 @@ impl Sizes {
         }
     }
 
-    // Whether there is room for a capacity. One test of the shortest, since the compiler then leaves the tests of each index out.
+    // Whether there is room for a capacity.
     pub(crate) fn have_room(self, cap: u32) -> bool
         ensures { result ≡ room_of slot_width cap self }
     {

@@ -3,7 +3,7 @@ ghost use Rattle.std.specs.Prelude.{◌≡◌};
 ghost use Rattle.queue.specs.Refusals.{slot_width};
 ghost use Rattle.queue.specs.Calls.{payload_of};
 
-// The bytes of a slot.
+// How many bytes a slot has.
 pub const SLOT_WIDTH: u32 = 2048;
 
 // The first `length` bytes of a slot: a released copy's bytes. None where slot or length is out of range.

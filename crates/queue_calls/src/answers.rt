@@ -2,7 +2,7 @@
 use queue::{Entered, Queued};
 
 // What a call gives where it is not refused.
-#[derive(Clone, Copy)]
+#[derive(Clone, Copy, Debug, PartialEq)]
 pub enum Answer {
     Created,
     Entered(Entered),

@@ -5,7 +5,7 @@ use numbers::Refusal;
 use queue::{ImpairQueue, Packet};
 
 // A call with what it is given but for the memory.
-#[derive(Clone, Copy)]
+#[derive(Clone, Copy, Debug, PartialEq)]
 pub enum Call<'a> {
     // The capacity.
     Create(usize),
@@ -19,51 +19,46 @@ pub enum Call<'a> {
 }
 
 impl Call<'_> {
-    // Makes the call over the lent memory; a creation gives a queue of its own.
-    pub fn make(
-        self,
-        queue: ImpairQueue,
-        lent: &mut Lent<'_>,
-    ) -> (ImpairQueue, Result<Answer, Refusal>) {
+    // Makes the call on the queue over the lent memory; a creation puts a new queue in its place.
+    pub fn make(self, queue: &mut ImpairQueue, lent: &mut Lent<'_>) -> Result<Answer, Refusal> {
         let tree = &mut lent.tree;
         let free = &mut *lent.free;
         let rows = &mut lent.rows;
         match self {
             Call::Create(cap) => {
                 let created = ImpairQueue::create(cap, tree.shared(), free, rows.shared());
-                answered(created, |_| Answer::Created)
+                kept(queue, created).map(|_| Answer::Created)
             }
             Call::Push(packet, bytes) => {
                 let pushed = queue.push(tree, free, rows, packet, bytes);
-                answered(pushed, Answer::Entered)
+                kept(queue, pushed).map(Answer::Entered)
             }
             Call::Release(now_ms) => {
                 let released = queue.release(tree, free, rows.shared(), now_ms);
-                answered(released, Answer::Released)
+                kept(queue, released).map(Answer::Released)
             }
             Call::NextDue => {
                 let seen = tree.shared();
-                (queue, queue.next_due(seen.win, seen.dues).map(Answer::Due))
+                queue.next_due(seen.win, seen.dues).map(Answer::Due)
             }
-            Call::Drain => answered(queue.drain(), Answer::Drained),
-            Call::Len => (
-                queue,
-                Ok(Answer::Held {
-                    copies: queue.len(),
-                    is_empty: queue.is_empty(),
-                }),
-            ),
+            Call::Drain => {
+                let drained = queue.drain();
+                kept(queue, drained).map(Answer::Drained)
+            }
+            Call::Len => Ok(Answer::Held {
+                copies: queue.len(),
+                is_empty: queue.is_empty(),
+            }),
         }
     }
 }
 
-// What a call gave, as the answer of a call of any kind.
-fn answered<T, F: FnOnce(T) -> Answer>(
+// The answer of a call; the queue that it hands back is kept.
+fn kept<T>(
+    queue: &mut ImpairQueue,
     called: (ImpairQueue, Result<T, Refusal>),
-    kind: F,
-) -> (ImpairQueue, Result<Answer, Refusal>)
-    requires { F.IsAlwaysCallable kind }
-{
-    let (queue, answer) = called;
-    (queue, answer.map(kind))
+) -> Result<T, Refusal> {
+    let (left, answer) = called;
+    *queue = left;
+    answer
 }

@@ -3,7 +3,7 @@ ghost use Rattle.std.specs.Prelude.{◌≤◌};
 
 use crate::table::Table;
 
-// The bytes of the store for each entry.
+// The bytes of the store for each entry: the tests' own figure, written apart from that of `queue` on purpose.
 const SLOT_WIDTH: usize = 2048;
 
 // From entry `start` of each table on so many entries, and of the store from byte `start` on 2,048 bytes for each; the table `short` lacks its last one.
@@ -27,10 +27,6 @@ impl Part {
     // The part of a table's entries; none of them where it has fewer.
     pub(crate) fn of<T>(self, table: Table, entries: &mut [T]) -> &mut [T] {
         let (start, end) = (self.start as usize, self.end(table));
-        if end <= entries.len() {
-            &mut entries[start..end]
-        } else {
-            &mut entries[..0]
-        }
+        entries.get_mut(start..end).unwrap_or(&mut [])
     }
 }

@@ -1,5 +1,5 @@
 // Calls on states and memory that were altered: a refused call changes nothing, and no call changes what was not lent.
-use crate::counts::Counts;
+use crate::counts::TallyWords;
 use crate::lines::Lines;
 use crate::{chosen, judged, scatter, states};
 use queue_calls::{Memory, Tally};
@@ -10,7 +10,7 @@ use std::io::Write;
 
 pub fn run<W: Write>(lines: &mut Lines<W>) -> io::Result<()> {
     let tally = counted(lines.alloc)?;
-    writeln!(lines.out, "altered: {}", Counts(&tally))
+    writeln!(lines.out, "altered: {}", TallyWords(&tally))
 }
 
 // Makes 4,000 calls, each on what the last one left, after it was altered.
@@ -22,14 +22,11 @@ fn counted(alloc: Global) -> Result<Tally, AllocError> {
     for turn in 0..4000 {
         let seed = draws::mix(turn, 1);
         scatter::some(&mut memory, seed);
-        let filled = payload::fill(&mut bytes, chosen::length_of(seed), seed);
-        let (left, answer, is_kept) = judged::make(
-            chosen::call_of(seed, filled),
-            chosen::queue_of(queue, seed),
-            &mut memory,
-            chosen::part_of(seed),
-        );
-        queue = left;
+        let filled = payload::fill(payload::front(&mut bytes, chosen::length_of(seed)), seed);
+        queue = chosen::queue_of(queue, seed);
+        let call = chosen::call_of(seed, filled);
+        let part = chosen::part_of(seed);
+        let (answer, is_kept) = judged::make(call, &mut queue, &mut memory, part);
         tally.add(answer, is_kept)?;
     }
     Ok(tally)

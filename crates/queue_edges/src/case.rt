@@ -61,8 +61,9 @@ impl Case<'_> {
 
     fn line<W: Write>(self, lines: &mut Lines<W>, word: &str, call: Call<'_>) -> io::Result<()> {
         let mut memory = Memory::new(lines.alloc, 2, 4096)?;
-        let (left, answer) = call.make(self.queue, &mut memory.part(states::two(self.short)));
+        let mut queue = self.queue;
+        let answer = call.make(&mut queue, &mut memory.part(states::two(self.short)));
         write!(lines.out, "{word} {}", self.name)?;
-        lines.end(answer, &memory, left)
+        lines.end(answer, &memory, queue)
     }
 }

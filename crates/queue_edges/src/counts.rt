@@ -16,9 +16,9 @@ const REFUSALS: [Refusal; 7] = [
 
 // A tally in words; a call that did not keep what it had to is wrong.
 #[derive(Clone, Copy)]
-pub struct Counts<'a>(pub &'a Tally);
+pub struct TallyWords<'a>(pub &'a Tally);
 
-impl fmt::Display for Counts<'_> {
+impl fmt::Display for TallyWords<'_> {
     fn fmt<W: fmt::Write>(&self, f: &mut fmt::Formatter<W>) -> fmt::Result {
         let tally = self.0;
         let due = tally.answered(|answer| matches!(answer, Answer::Due(Some(_))));
@@ -27,7 +27,7 @@ impl fmt::Display for Counts<'_> {
         write!(f, "{tally} due {due} empty {empty} drained {drained}")?;
         for refusal in REFUSALS {
             let refused = tally.refused(refusal);
-            write!(f, " refused {}: {refused}", refusal.number())?;
+            write!(f, " refused {}: {refused}", u32::from(refusal))?;
         }
         write!(f, " wrong {}", tally.wrong())
     }

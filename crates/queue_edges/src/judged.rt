@@ -5,18 +5,19 @@ use numbers::Refusal;
 use queue::ImpairQueue;
 use queue_calls::{Answer, Call, Memory, Part};
 
-// The state after the call, the answer, and whether all was kept.
+// The answer, and whether all was kept.
 pub fn make(
     call: Call<'_>,
-    queue: ImpairQueue,
+    queue: &mut ImpairQueue,
     memory: &mut Memory,
     part: Part,
-) -> (ImpairQueue, Result<Answer, Refusal>, bool) {
+) -> (Result<Answer, Refusal>, bool) {
     let before = marks::of(part, memory);
-    let (left, answer) = call.make(queue, &mut memory.part(part));
+    let state = *queue;
+    let answer = call.make(queue, &mut memory.part(part));
     let after = marks::of(part, memory);
-    let is_kept = is_kept(answer, before, after, queue == left);
-    (left, answer, is_kept)
+    let is_kept = is_kept(answer, before, after, *queue == state);
+    (answer, is_kept)
 }
 
 // What was not lent stays always; the lent memory unless a copy entered or left, and the state unless copies entered or left.

@@ -31,7 +31,7 @@ pub fn ends<W: Write>(lines: &mut Lines<W>) -> io::Result<()> {
 
 fn filled(alloc: Global) -> Result<Vec<u8>, AllocError> {
     let mut space = vec![in alloc; 0; 16384]?;
-    payload::fill(&mut space, 16384, 1);
+    payload::fill(&mut space, 1);
     Ok(space)
 }
 

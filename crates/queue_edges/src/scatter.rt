@@ -1,4 +1,4 @@
-// Memory is altered: all of it is drawn anew, or one entry of each table that the tree is read from.
+// Memory is altered: all of it is drawn anew, or one entry of each table of the tree and one of the free slots.
 use queue_calls::Memory;
 use script::payload;
 
@@ -19,7 +19,7 @@ fn all(memory: &mut Memory, seed: u64) {
     fill(&mut memory.routes, draws::mix(seed, 16), long_of);
     fill(&mut memory.copy_ids, draws::mix(seed, 17), word_of);
     fill(&mut memory.lengths, draws::mix(seed, 18), word_of);
-    payload::fill(&mut memory.store, u64::MAX, draws::mix(seed, 19));
+    payload::fill(&mut memory.store, draws::mix(seed, 19));
 }
 
 // Every entry of a table is drawn.
@@ -33,17 +33,10 @@ fn fill<T: Copy, F: Fn(u64) -> T>(table: &mut [T], seed: u64, entry_of: F)
 
 fn one_of_keys(memory: &mut Memory, seed: u64) {
     let at = (draws::mix(seed, 20) % 24) as usize;
-    put(&mut memory.win, at, word_of(draws::mix(seed, 21)));
-    put(&mut memory.free, at, word_of(draws::mix(seed, 22)));
-    put(&mut memory.dues, at, float_of(draws::mix(seed, 23)));
-    put(&mut memory.seqs, at, long_of(draws::mix(seed, 24)));
-}
-
-// Puts an entry at a place of a table that has it.
-fn put<T: Copy>(table: &mut [T], at: usize, entry: T) {
-    if let Some(place) = table.get_mut(at) {
-        *place = entry;
-    }
+    tables::set(&mut memory.win, at, word_of(draws::mix(seed, 21)));
+    tables::set(&mut memory.free, at, word_of(draws::mix(seed, 22)));
+    tables::set(&mut memory.dues, at, float_of(draws::mix(seed, 23)));
+    tables::set(&mut memory.seqs, at, long_of(draws::mix(seed, 24)));
 }
 
 // Most are small enough for a slot.

@@ -1,4 +1,4 @@
-// The last two seqs go to copies that are due at no instant: then every call is refused, until the next seq is set back.
+// The last two seqs go to copies that are due at no instant: then every call but that of the length is refused, until the next seq is set back.
 use crate::lines::Lines;
 use crate::states;
 use crate::states::TOO_MANY;
@@ -34,28 +34,24 @@ pub fn run<W: Write>(lines: &mut Lines<W>) -> io::Result<()> {
         Call::Drain,
         Call::Len,
     ];
-    let queue = made(lines, &mut memory, states::empty(TOO_MANY - 2), &calls)?;
-    let set_back = ImpairQueue {
-        next_seq: 5,
-        ..queue
-    };
+    let mut queue = states::empty(TOO_MANY - 2);
+    make(lines, &mut memory, &mut queue, &calls)?;
+    queue.next_seq = 5;
     let calls = [Call::NextDue, release, Call::Drain, Call::NextDue];
-    made(lines, &mut memory, set_back, &calls)?;
-    Ok(())
+    make(lines, &mut memory, &mut queue, &calls)
 }
 
-// Makes one call after the other over the same memory; the state after the last one.
-fn made<W: Write>(
+// Makes one call after the other over the same memory.
+fn make<W: Write>(
     lines: &mut Lines<W>,
     memory: &mut Memory,
-    mut queue: ImpairQueue,
+    queue: &mut ImpairQueue,
     calls: &[Call<'_>],
-) -> io::Result<ImpairQueue> {
+) -> io::Result<()> {
     for call in calls {
-        let (left, answer) = call.make(queue, &mut memory.lent());
-        queue = left;
+        let answer = call.make(queue, &mut memory.lent());
         write!(lines.out, "last seqs")?;
-        lines.end(answer, memory, queue)?;
+        lines.end(answer, memory, *queue)?;
     }
-    Ok(queue)
+    Ok(())
 }

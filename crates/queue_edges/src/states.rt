@@ -2,7 +2,7 @@
 use queue::ImpairQueue;
 use queue_calls::{Part, Table};
 
-// The least number that no next seq may have.
+// The least number that no next seq may have: the tests' own figure, written apart from that of `numbers` on purpose.
 pub const TOO_MANY: u64 = 0x1000_0000_0000_0000;
 
 // No slot was used.

@@ -3,7 +3,7 @@
 use crate::lines::{Lines, State};
 use crate::states;
 use crate::states::TOO_MANY;
-use output::Answered;
+use output::{Answered, Each};
 use queue::{Entered, ImpairQueue, Packet};
 use queue_calls::{Lent, Memory};
 use std::io::Write;
@@ -60,18 +60,5 @@ struct Copies(Entered);
 impl fmt::Display for Copies {
     fn fmt<W: fmt::Write>(&self, f: &mut fmt::Formatter<W>) -> fmt::Result {
         write!(f, "entered {} {}", self.0.seq, self.0.copies)
-    }
-}
-
-// The entries of a table, each behind a blank.
-#[derive(Clone, Copy)]
-struct Each<'a, T>(&'a [T]);
-
-impl<T: fmt::Display> fmt::Display for Each<'_, T> {
-    fn fmt<W: fmt::Write>(&self, f: &mut fmt::Formatter<W>) -> fmt::Result {
-        for entry in self.0 {
-            write!(f, " {entry}")?;
-        }
-        Ok(())
     }
 }

@@ -11,7 +11,7 @@ pub fn call_of<'a>(line: &[u8], room: &'a mut [u8]) -> Option<Call<'a>> {
     }
     let mut words = Words::new(line);
     let call = match words.next()? {
-        b"queue" => Call::Create(usize::try_from(words.whole()?).ok()?),
+        b"queue" => Call::Create(words.size()?),
         b"push" => push(&mut words, room)?,
         b"release" => Call::Release(words.float()?),
         b"due" => Call::NextDue,
@@ -19,7 +19,7 @@ pub fn call_of<'a>(line: &[u8], room: &'a mut [u8]) -> Option<Call<'a>> {
         b"len" => Call::Len,
         _ => return None,
     };
-    if words.is_empty() { Some(call) } else { None }
+    words.is_empty().then_some(call)
 }
 
 // A due, an arrival, a route, a copy id, a length and a seed.
@@ -32,6 +32,6 @@ fn push<'a>(words: &mut Words<'_>, room: &'a mut [u8]) -> Option<Call<'a>> {
         duplicated: false,
     };
     let (length, seed) = (words.whole()?, words.whole()?);
-    let bytes = payload::fill(room, length, seed);
+    let bytes = payload::fill(payload::front(room, length), seed);
     Some(Call::Push(packet, bytes))
 }

@@ -37,8 +37,7 @@ impl Session {
         let Some(call) = request::call_of(line, &mut self.room) else {
             return Ok(false);
         };
-        let (queue, answer) = call.make(self.queue, &mut self.memory.lent());
-        self.queue = queue;
+        let answer = call.make(&mut self.queue, &mut self.memory.lent());
         let store = self.memory.store.as_slice();
         output::say(out, answer.map(|answer| Told { answer, store }))?;
         Ok(true)

@@ -5,9 +5,9 @@ use std::fmt;
 
 // A tally in words; an answer that is not that of the list is apart.
 #[derive(Clone, Copy)]
-pub struct Counts<'a>(pub &'a Tally);
+pub struct TallyWords<'a>(pub &'a Tally);
 
-impl fmt::Display for Counts<'_> {
+impl fmt::Display for TallyWords<'_> {
     fn fmt<W: fmt::Write>(&self, f: &mut fmt::Formatter<W>) -> fmt::Result {
         let tally = self.0;
         let full = tally.refused(Refusal::Full);

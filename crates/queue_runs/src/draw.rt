@@ -3,14 +3,14 @@ use draws::Rng;
 use queue::Packet;
 
 // A copy; all but its due follows from the seed.
-#[derive(Clone, Copy)]
+#[derive(Clone, Copy, Debug, PartialEq)]
 pub struct Seeded {
     pub due_ms: f64,
     pub seed: u64,
 }
 
-// A call as it is drawn.
-#[derive(Clone, Copy)]
+// A call as it is drawn. No `queue_calls::Call`, which has the bytes of a copy: the list keeps the seed, and makes the bytes when the copy leaves.
+#[derive(Clone, Copy, Debug, PartialEq)]
 pub enum Drawn {
     Push(Seeded),
     Release(f64),
@@ -84,17 +84,20 @@ fn instant_of(n: u64) -> f64 {
     }
 }
 
-impl Seeded {
-    pub fn packet(self) -> Packet {
+impl From<Seeded> for Packet {
+    fn from(copy: Seeded) -> Packet {
+        let Seeded { due_ms, seed } = copy;
         Packet {
-            due_ms: self.due_ms,
-            arrival_ms: numbers::float_of(draws::mix(self.seed, 1) % 1000) * 0.25,
-            route: draws::mix(self.seed, 2),
-            copy_id: (draws::mix(self.seed, 3) % 0x1_0000_0000) as u32,
+            due_ms,
+            arrival_ms: numbers::float_of(draws::mix(seed, 1) % 1000) * 0.25,
+            route: draws::mix(seed, 2),
+            copy_id: (draws::mix(seed, 3) % 0x1_0000_0000) as u32,
             duplicated: false,
         }
     }
+}
 
+impl Seeded {
     // How many bytes the copy has: most have few, since they are made one by one.
     pub fn length(self) -> u64 {
         let n = draws::mix(self.seed, 4);

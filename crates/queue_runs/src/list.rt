@@ -1,7 +1,7 @@
 // A queue as a plain list: what it holds stands in no order, and the least is found by a scan.
 use crate::draw::{Drawn, Seeded};
 use numbers::Refusal;
-use queue::{Entered, Queued};
+use queue::{Entered, Packet, Queued};
 use queue_calls::Answer;
 use script::payload;
 use std::alloc::{AllocError, Global};
@@ -63,8 +63,9 @@ impl List {
             return None;
         }
         self.held.retain(|held| held.seq != least.seq);
-        payload::fill(&mut self.store, least.copy.length(), least.copy.seed);
-        Some(queued(least))
+        let bytes = payload::front(&mut self.store, least.copy.length());
+        payload::fill(bytes, least.copy.seed);
+        Some(Queued::from(least))
     }
 
     fn next_due(&self) -> Option<f64> {
@@ -87,15 +88,17 @@ impl List {
 }
 
 // A copy as it leaves; its bytes lie in slot 0.
-fn queued(held: Held) -> Queued {
-    let packet = held.copy.packet();
-    Queued {
-        due_ms: packet.due_ms,
-        seq: held.seq,
-        arrival_ms: packet.arrival_ms,
-        route: packet.route,
-        copy_id: packet.copy_id,
-        length: held.copy.length() as usize,
-        slot: 0,
+impl From<Held> for Queued {
+    fn from(held: Held) -> Queued {
+        let packet = Packet::from(held.copy);
+        Queued {
+            due_ms: packet.due_ms,
+            seq: held.seq,
+            arrival_ms: packet.arrival_ms,
+            route: packet.route,
+            copy_id: packet.copy_id,
+            length: held.copy.length() as usize,
+            slot: 0,
+        }
     }
 }

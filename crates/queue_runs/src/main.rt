@@ -7,7 +7,7 @@ mod draw;
 mod list;
 mod runs;
 
-use crate::counts::Counts;
+use crate::counts::TallyWords;
 use std::io;
 use std::io::{BufWriter, Write};
 
@@ -16,7 +16,7 @@ fn main(rt: HostRuntime) -> io::Result<()> {
     let mut out = BufWriter::new(alloc, io::writer(&rt))?;
     for cap in [1, 2, 15, 16, 17, 33, 64] {
         let tally = runs::compared(alloc, cap)?;
-        writeln!(out, "capacity {cap}: {}", Counts(&tally))?;
+        writeln!(out, "capacity {cap}: {}", TallyWords(&tally))?;
     }
     out.flush()
 }

@@ -12,15 +12,14 @@ use std::alloc::{AllocError, Global};
 pub fn compared(alloc: Global, cap: usize) -> Result<Tally, AllocError> {
     let mut memory = Memory::new(alloc, 64, 64 * 2048)?;
     let mut bytes = vec![in alloc; 0; 2048]?;
-    let create = Call::Create(cap);
-    let (mut queue, _) = create.make(ImpairQueue::smallest(), &mut memory.lent());
+    let mut queue = ImpairQueue::smallest();
+    let _ = Call::Create(cap).make(&mut queue, &mut memory.lent());
     let mut list = List::new(alloc, cap)?;
     let mut source = Source::new(cap as u64);
     let mut tally = Tally::new(alloc);
     for turn in 0..20000 {
         let drawn = source.call(turn);
-        let (left, answer) = call_of(drawn, &mut bytes).make(queue, &mut memory.lent());
-        queue = left;
+        let answer = call_of(drawn, &mut bytes).make(&mut queue, &mut memory.lent());
         let wanted = list.make(drawn)?;
         let is_same = words(alloc, answer, &memory.store)? == words(alloc, wanted, &list.store)?;
         tally.add(answer, is_same)?;
@@ -32,8 +31,8 @@ pub fn compared(alloc: Global, cap: usize) -> Result<Tally, AllocError> {
 fn call_of(drawn: Drawn, bytes: &mut [u8]) -> Call<'_> {
     match drawn {
         Drawn::Push(copy) => {
-            let filled = payload::fill(bytes, copy.length(), copy.seed);
-            Call::Push(copy.packet(), filled)
+            let filled = payload::fill(payload::front(bytes, copy.length()), copy.seed);
+            Call::Push(copy.into(), filled)
         }
         Drawn::Release(now_ms) => Call::Release(now_ms),
         Drawn::NextDue => Call::NextDue,
@@ -42,7 +41,7 @@ fn call_of(drawn: Drawn, bytes: &mut [u8]) -> Call<'_> {
     }
 }
 
-// An answer in words; the bytes of a copy that left count by their sum.
+// An answer in words, as which answers are compared: the bytes of a copy that left count by their sum, its slot does not, and 0 and -0 are apart.
 fn words(
     alloc: Global,
     answer: Result<Answer, Refusal>,

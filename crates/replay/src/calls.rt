@@ -5,7 +5,7 @@ use script::{hex, lines, words};
 use std::alloc::{AllocError, Global};
 
 // A packet that arrives; its bytes are made from their number and a seed.
-#[derive(Clone, Copy)]
+#[derive(Clone, Copy, Debug, PartialEq, Eq)]
 pub struct Packet {
     pub len: u64,
     pub route: u64,
@@ -13,7 +13,7 @@ pub struct Packet {
 }
 
 // What a line asks for.
-#[derive(Drop)]
+#[derive(Debug, PartialEq, Drop)]
 pub enum Call {
     Options(Vec<u8>),
     Create {
@@ -36,23 +36,20 @@ pub enum Call {
 }
 
 impl Call {
-    // The call of a line, where it is one.
+    // The call of a line, where it is one. The same lines as in `arrivals`: a shared function would take two closures, and a clause for each.
     pub fn read(alloc: Global, line: &[u8]) -> Result<Option<Self>, AllocError> {
         match words::split_word(line) {
             (b"options", Some(digits)) => Ok(hex::decode(alloc, digits)?.map(Call::Options)),
             _ if line.len() > lines::LONGEST => Ok(None),
-            (word, Some(rest)) => Ok(with_numbers(word, rest)),
-            (b"t", None) => Ok(Some(Call::Teardown)),
-            (b"p", None) => Ok(Some(Call::Report)),
-            _ => Ok(None),
+            _ => Ok(of_words(line)),
         }
     }
 }
 
-// The call that a first word names, with the numbers behind it.
-fn with_numbers(word: &[u8], rest: &[u8]) -> Option<Call> {
-    let mut words = Words::new(rest);
-    let call = match word {
+// The call that the first word of a line names, with the numbers behind it.
+fn of_words(line: &[u8]) -> Option<Call> {
+    let mut words = Words::new(line);
+    let call = match words.next()? {
         b"create" => creation(&mut words)?,
         b"a" => arrival(&mut words)?,
         b"r" => Call::Release {
@@ -61,9 +58,11 @@ fn with_numbers(word: &[u8], rest: &[u8]) -> Option<Call> {
         b"b" => Call::Rebind {
             now_ms: words.float()?,
         },
+        b"t" => Call::Teardown,
+        b"p" => Call::Report,
         _ => return None,
     };
-    if words.is_empty() { Some(call) } else { None }
+    words.is_empty().then_some(call)
 }
 
 // A direction, a salt and a capacity.
@@ -71,7 +70,7 @@ fn creation(words: &mut Words<'_>) -> Option<Call> {
     Some(Call::Create {
         direction: Direction::of(words.next()?)?,
         salt: words.whole()?,
-        cap: usize::try_from(words.whole()?).ok()?,
+        cap: words.size()?,
     })
 }
 

@@ -2,7 +2,7 @@
 use accounts::DirectionStats;
 use device::Report;
 use engine_words::stats::{Dropped, Others, Received};
-use output::Bits;
+use output::{Bits, Each};
 use std::fmt;
 
 // The statistics, and the copies held and torn.
@@ -28,10 +28,7 @@ struct Latencies<'a>(&'a DirectionStats);
 impl<'a> fmt::Display for Latencies<'a> {
     fn fmt<W: fmt::Write>(&self, f: &mut fmt::Formatter<W>) -> fmt::Result {
         let stats = self.0;
-        for packets in &stats.hist {
-            write!(f, " {packets}")?;
-        }
-        write!(f, " {}", Bits(stats.latency_sum_ms))?;
+        write!(f, "{} {}", Each(&stats.hist), Bits(stats.latency_sum_ms))?;
         write!(f, " {}", Bits(stats.latency_min_ms))?;
         write!(f, " {}", Bits(stats.latency_max_ms))
     }

@@ -91,7 +91,7 @@ impl Session {
     }
 
     fn arrive(&mut self, now_ms: f64, packet: Packet) -> Result<Arrived, Refusal> {
-        let bytes = payload::fill(&mut self.room, packet.len, packet.seed);
+        let bytes = payload::fill(payload::front(&mut self.room, packet.len), packet.seed);
         let device = self.device;
         let lent = &mut self.memory.lent();
         let arrived = lent::arrive(device, lent, now_ms, bytes, packet.route);
@@ -104,16 +104,14 @@ impl Session {
     }
 
     fn rebind(&mut self, now_ms: f64) -> Result<bool, Refusal> {
-        let rebound = self.device.rebind(now_ms);
-        self.keep(rebound)
+        self.keep(self.device.rebind(now_ms))
     }
 
     fn teardown(&mut self) -> Result<u64, Refusal> {
-        let torn = self.device.teardown();
-        self.keep(torn)
+        self.keep(self.device.teardown())
     }
 
-    // Keeps the device that a call gave; the answer is the call's.
+    // Keeps the device that a call gave; the answer is the call's. By value: the form that document 01 gives the calls.
     fn keep<T>(&mut self, called: (Device, Result<T, Refusal>)) -> Result<T, Refusal> {
         let (device, answer) = called;
         self.device = device;

@@ -11,3 +11,7 @@ has_line bytes = nat_lt 0 (length bytes)
 
 abbrev pub line_of : List ℕ → List ℕ
 line_of bytes = first_piece line_feed bytes
+
+-- a closure that may be called in any state, with any line and any output
+abbrev pub TakesAnyLine : {F L W : Type 0} → (F → L → W → Type 0) → Type 0
+TakesAnyLine {F} {L} {W} pre = (state : F) (line : L) (out : W) → pre state line out

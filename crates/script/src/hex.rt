@@ -37,5 +37,5 @@ pub fn decode(alloc: Global, digits: &[u8]) -> Result<Option<Vec<u8>>, AllocErro
         text.push(byte)?;
         rest = behind;
     }
-    Ok(if rest.is_empty() { Some(text) } else { None })
+    Ok(rest.is_empty().then_some(text))
 }

@@ -1,7 +1,7 @@
 // The lines of an input, each ended by a line feed; a last line without one counts where it has bytes.
 ghost use Rattle.std.specs.Prelude.{◌≡◌, IfOk, IfSome, OnOk};
 ghost use Rattle.std.specs.Io.BufRead.{DropsThrough, strip_last};
-ghost use Rattle.script.specs.Lines.{line_feed, has_line, line_of};
+ghost use Rattle.script.specs.Lines.{line_feed, has_line, line_of, TakesAnyLine};
 
 use std::alloc::Global;
 use std::io;
@@ -13,7 +13,7 @@ pub const BAD_LINE: &str = "bad line";
 // The longest line in bytes that asks for something without an option text.
 pub const LONGEST: usize = 65536;
 
-// Puts the next line into `line`, without its line feed, and says whether there is one.
+// Puts the next line into `line`, without its line feed, and says whether there is one. The caller lends `line`, so that one buffer serves for all lines.
 pub fn next_line<R: BufRead>(input: &mut R, line: &mut Vec<u8>) -> io::Result<bool>
     ensures line { IfOk result (λ there. IfSome (R.remaining input.old) (λ bytes. (there ≡ has_line bytes) × (line.new.items ≡ line_of bytes))) }
     ensures rest { OnOk result (DropsThrough (R.remaining input.old) (R.remaining input.new) line_feed) }
@@ -44,6 +44,7 @@ pub fn answer_lines<R: Read + Drop, W: Write, F: FnMut(&[u8], &mut W) -> io::Res
 {
     let mut input = BufReader::new(alloc, input)?;
     let mut line = Vec::new(alloc);
+    // Not `loop`: a bound on the turns proves that this ends, whatever the input has.
     for _ in 0..u64::MAX {
         if !next_line(&mut input, &mut line)? {
             break;
@@ -63,25 +64,25 @@ pub fn answer_calls<R: Read + Drop, W: Write, F: FnMut(&[u8], &mut W) -> io::Res
     out: &mut W,
     mut answer: F,
 ) -> io::Result<()>
-    requires { (state : F) (line : _) (out : _) → F.pre state line out }
+    requires { TakesAnyLine F.pre }
 {
     answer_lines(
         alloc,
         input,
         out,
         |line, out|
-            requires { (state : F) (line : _) (out : _) → F.pre state line out }
+            requires { TakesAnyLine F.pre }
         { answer_call(line, out, &mut answer) },
     )
 }
 
-// Answers one line; the call has a function of its own, since within the closure above the borrow checker's part of the proof fails.
+// Answers one line. A function of its own: written in the closure above, the proof of its borrows does not close.
 fn answer_call<W: Write, F: FnMut(&[u8], &mut W) -> io::Result<bool>>(
     line: &[u8],
     out: &mut W,
     answer: &mut F,
 ) -> io::Result<()>
-    requires { (state : F) (line : _) (out : _) → F.pre state line out }
+    requires { TakesAnyLine F.pre }
 {
     if !answer(line, out)? {
         out.write_all(BAD_LINE.as_bytes())?;

@@ -7,8 +7,8 @@ ghost use Rattle.settings.specs.Lists.{no_entries, with_entry, with_value, entri
 use args::Values;
 use numbers::{MAX_ENTRIES, Refusal};
 
-// What stands in a list: it is read from the value of an option, and one of them fills what is not counted. That one is no `Default`, since the source gives
-// windows and kills none.
+// What stands in a list: it is read from the value of an option, and one of them fills what is not counted. That one is a filler and
+// no setting, so it is no `Default`.
 pub trait Entry: Copy {
     ghost parsed_of: { List ℕ → Result Self Refused };
 

@@ -3,7 +3,7 @@ ghost use Rattle.std.specs.Prelude.{◌≡◌};
 ghost use Rattle.settings.specs.Windows.{no_kill, parse_style_of, parse_kill_of};
 
 use crate::entries::Entry;
-use crate::window::{Window, no_window};
+use crate::window::Window;
 use numbers::Refusal;
 use values::three_parts;
 
@@ -20,26 +20,18 @@ pub struct TcpKill {
     pub style: KillStyle,
 }
 
-// The kill with an empty window that fills a list.
-pub fn no_kill() -> TcpKill
-    ensures { result ≡ no_kill }
-{
-    TcpKill {
-        window: no_window(),
-        style: KillStyle::Hold,
-    }
-}
-
-// The style that a kill's third part names. By `==`, since the proof does not close with a match of byte strings.
-fn parse_style(v: &[u8]) -> Result<KillStyle, Refusal>
-    ensures { result ≡ parse_style_of v.now }
-{
-    if v == b"rst".as_slice() {
-        Ok(KillStyle::Rst)
-    } else if v == b"hold".as_slice() {
-        Ok(KillStyle::Hold)
-    } else {
-        Err(Refusal::KillStyle)
+impl KillStyle {
+    // The style that a kill's third part names. By `==`, since the proof does not close with a match of byte strings of two lengths.
+    fn parse(v: &[u8]) -> Result<KillStyle, Refusal>
+        ensures { result ≡ parse_style_of v.now }
+    {
+        if v == b"rst".as_slice() {
+            Ok(KillStyle::Rst)
+        } else if v == b"hold".as_slice() {
+            Ok(KillStyle::Hold)
+        } else {
+            Err(Refusal::KillStyle)
+        }
     }
 }
 
@@ -49,14 +41,17 @@ impl Entry for TcpKill {
     ghost empty_of = { no_kill };
 
     fn empty() -> TcpKill {
-        no_kill()
+        TcpKill {
+            window: Window::empty(),
+            style: KillStyle::Hold,
+        }
     }
 
     // START:END:STYLE.
     fn parse(v: &[u8]) -> Result<TcpKill, Refusal> {
         let (start, end, style) = three_parts(v).ok_or(Refusal::KillParts)?;
         let window = Window::between(start, end)?;
-        let style = parse_style(style)?;
+        let style = KillStyle::parse(style)?;
         Ok(TcpKill { window, style })
     }
 }

@@ -8,5 +8,5 @@ mod window;
 
 pub use entries::{Entries, Entry, entries_at};
 pub use ge::Ge;
-pub use kill::{KillStyle, TcpKill, no_kill};
-pub use window::{Window, no_window};
+pub use kill::{KillStyle, TcpKill};
+pub use window::Window;

@@ -13,16 +13,6 @@ pub struct Window {
     pub end_ms: u64,
 }
 
-// The empty window that fills a list.
-pub fn no_window() -> Window
-    ensures { result ≡ no_window }
-{
-    Window {
-        start_ms: 0,
-        end_ms: 0,
-    }
-}
-
 impl Window {
     // The window between two bounds, each with blanks around it or none.
     pub(crate) fn between(start: &[u8], end: &[u8]) -> Result<Window, Refusal>
@@ -51,7 +41,10 @@ impl Entry for Window {
     ghost empty_of = { no_window };
 
     fn empty() -> Window {
-        no_window()
+        Window {
+            start_ms: 0,
+            end_ms: 0,
+        }
     }
 
     // START:END.

@@ -1,4 +1,6 @@
 // The settings of a direction as words.
+ghost use Rattle.std.specs.Iterator.{IsFinite};
+
 use crate::windows::{Blackout, Kill};
 use options::{DirectionConfig, Ge};
 use output::Bits;
@@ -13,8 +15,7 @@ impl<'a> fmt::Display for Direction<'a> {
         f.write_str("[")?;
         self.say_losses_and_delays(f)?;
         self.say_limits(f)?;
-        self.say_blackouts(f)?;
-        self.say_kills(f)?;
+        self.say_windows(f)?;
         f.write_str("]")
     }
 }
@@ -39,21 +40,28 @@ impl<'a> Direction<'a> {
         write!(f, " nat={}", settings.nat_change_every_ms)
     }
 
-    // Only the counted entries.
-    fn say_blackouts<W: fmt::Write>(&self, f: &mut fmt::Formatter<W>) -> fmt::Result {
-        for window in self.0.blackouts.iter().take(self.0.blackout_count) {
-            write!(f, " {}", Blackout(*window))?;
-        }
-        Ok(())
+    // Only the counted entries of each list.
+    fn say_windows<W: fmt::Write>(&self, f: &mut fmt::Formatter<W>) -> fmt::Result {
+        let settings = self.0;
+        let blackouts = settings.blackouts.iter().take(settings.blackout_count);
+        let kills = settings.tcp_kills.iter().take(settings.tcp_kill_count);
+        say_entries(f, blackouts.copied().map(Blackout))?;
+        say_entries(f, kills.copied().map(Kill))
     }
+}
 
-    // Only the counted entries.
-    fn say_kills<W: fmt::Write>(&self, f: &mut fmt::Formatter<W>) -> fmt::Result {
-        for kill in self.0.tcp_kills.iter().take(self.0.tcp_kill_count) {
-            write!(f, " {}", Kill(*kill))?;
-        }
-        Ok(())
+// Each entry behind a blank.
+fn say_entries<W: fmt::Write, T: fmt::Display + Drop, I: Iterator<Item = T>>(
+    f: &mut fmt::Formatter<W>,
+    entries: I,
+) -> fmt::Result
+    requires can { I.can_next entries }
+    requires ends { IsFinite (I.remaining entries) }
+{
+    for entry in entries {
+        write!(f, " {entry}")?;
     }
+    Ok(())
 }
 
 // A setting that may be absent.

@@ -15,7 +15,7 @@ pub struct Taken<'a>(pub &'a Config);
 impl<'a> fmt::Display for Taken<'a> {
     fn fmt<W: fmt::Write>(&self, f: &mut fmt::Formatter<W>) -> fmt::Result {
         let config = self.0;
-        let mode = mode_name(config.mode);
+        let mode = ModeName(config.mode);
         write!(f, "taken mode={mode} seed={}", config.seed)?;
         write!(f, " duration={}", config.duration_ms)?;
         write!(f, " verbose={}", u8::from(config.verbose))?;
@@ -24,9 +24,15 @@ impl<'a> fmt::Display for Taken<'a> {
     }
 }
 
-fn mode_name(mode: Mode) -> &'static str {
-    match mode {
-        Mode::Udp => "udp",
-        Mode::Tcp => "tcp",
+// A mode by its name.
+#[derive(Clone, Copy)]
+struct ModeName(Mode);
+
+impl fmt::Display for ModeName {
+    fn fmt<W: fmt::Write>(&self, f: &mut fmt::Formatter<W>) -> fmt::Result {
+        f.write_str(match self.0 {
+            Mode::Udp => "udp",
+            Mode::Tcp => "tcp",
+        })
     }
 }

@@ -17,14 +17,20 @@ pub struct Kill(pub TcpKill);
 impl fmt::Display for Kill {
     fn fmt<W: fmt::Write>(&self, f: &mut fmt::Formatter<W>) -> fmt::Result {
         let window = self.0.window;
-        let style = style_name(self.0.style);
+        let style = StyleName(self.0.style);
         write!(f, "k{}:{}:{style}", window.start_ms, window.end_ms)
     }
 }
 
-fn style_name(style: KillStyle) -> &'static str {
-    match style {
-        KillStyle::Rst => "rst",
-        KillStyle::Hold => "hold",
+// A style by its name.
+#[derive(Clone, Copy)]
+struct StyleName(KillStyle);
+
+impl fmt::Display for StyleName {
+    fn fmt<W: fmt::Write>(&self, f: &mut fmt::Formatter<W>) -> fmt::Result {
+        f.write_str(match self.0 {
+            KillStyle::Rst => "rst",
+            KillStyle::Hold => "hold",
+        })
     }
 }

@@ -8,7 +8,7 @@ use crate::{bucket, burst, chance, due, mtu};
 use draws::Rng;
 use options::DirectionConfig;
 
-// What decides an arrival beside the settings, and is changed by it. The engine has these fields one by one, as document 01 lists them.
+// What decides an arrival beside the settings, and is changed by it. The engine has these fields one by one, as the source has.
 #[derive(Clone, Copy)]
 pub struct ArrivalState {
     pub rng: Rng,
@@ -39,7 +39,8 @@ fn stopped(state: ArrivalState, decision: Decision) -> Arrival
     }
 }
 
-// Steps 7 to 11.
+// Steps 7 to 11. Beside settings and state, of which the one is only read and the other changes, go the arguments of document 01's `arrive`; a struct of the four
+// would only be taken apart again.
 #[tactic(auto, unfolding(crate::specs::Arrival::scheduled_of))]
 fn scheduled(c: &DirectionConfig, s: ArrivalState, now_ms: f64, len: usize) -> Arrival
     ensures { result ≡ scheduled_of c.now s now_ms len }

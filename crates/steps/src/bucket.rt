@@ -7,17 +7,12 @@ ghost use Rattle.steps.specs.Bucket.{bucket_capacity_of, charged_of, last_refill
 use crate::arrival::ArrivalState;
 use options::DirectionConfig;
 
-// The credit of a full bucket, by the rule that the text has for a burst: the source has it in both places. A closure, since a free function of another crate has
-// no proof where it is passed by its name.
-#[tactic(auto, unfolding(crate::specs::Bucket::bucket_capacity_of, crate::specs::Bucket::rate_capacity_of))]
+// The credit of a full bucket: the burst that was set, or else the rate's own.
+#[tactic(auto, unfolding(crate::specs::Bucket::bucket_capacity_of, crate::specs::Bucket::rate_capacity_of, options::specs::Directions::burst_of))]
 pub fn bucket_capacity(rate: Option<u64>, rate_burst_bytes: u64) -> u64
     ensures { result ≡ bucket_capacity_of rate rate_burst_bytes }
 {
-    if rate_burst_bytes > 0 {
-        rate_burst_bytes
-    } else {
-        rate.map_or(0, |bps| options::default_burst(bps))
-    }
+    options::burst_of(rate_burst_bytes, rate)
 }
 
 // The credit after some milliseconds, up to the capacity.

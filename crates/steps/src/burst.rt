@@ -2,6 +2,7 @@
 ghost use Rattle.std.specs.Prelude.{◌≡◌, cond, not};
 ghost use Rattle.steps.specs.Burst.{lost_of, burst_loss_of};
 
+use crate::chance;
 use draws::Rng;
 use settings::Ge;
 
@@ -38,10 +39,6 @@ fn turned(bad: bool, flip: bool) -> bool
 fn lost(rng: Rng, now_bad: bool, h: f64) -> (Rng, bool, bool)
     ensures { result ≡ lost_of rng now_bad h }
 {
-    if now_bad {
-        let (rng, draw) = rng.next_f64();
-        (rng, now_bad, draw < h)
-    } else {
-        (rng, now_bad, false)
-    }
+    let (rng, lost) = chance::drawn(rng, now_bad, false, |draw| draw < h);
+    (rng, now_bad, lost)
 }

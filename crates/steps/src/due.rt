@@ -2,6 +2,7 @@
 ghost use Rattle.std.specs.Prelude.{◌≡◌};
 ghost use Rattle.steps.specs.Due.{jittered_of, reordered_of, owed_of};
 
+use crate::chance;
 use draws::Rng;
 
 // The generator, and the due with a part of the jitter added, by one draw; no draw is made where there is no jitter.
@@ -9,12 +10,12 @@ use draws::Rng;
 pub(crate) fn jittered(rng: Rng, due_ms: f64, jitter_ms: f64) -> (Rng, f64)
     ensures { result ≡ jittered_of rng due_ms jitter_ms }
 {
-    if jitter_ms > 0.0 {
-        let (rng, draw) = rng.next_f64();
-        (rng, due_ms + draw * jitter_ms)
-    } else {
-        (rng, due_ms)
-    }
+    chance::drawn(
+        rng,
+        jitter_ms > 0.0,
+        due_ms,
+        |draw| due_ms + draw * jitter_ms,
+    )
 }
 
 // The reorder delay is added where the reorder draw hit.

@@ -1,5 +1,5 @@
 // Floats in decimal.
-use crate::digits::{BEFORE, Digits};
+use crate::digits::Digits;
 use std::fmt;
 
 // The columns of a time: those of a count, and four more for the point and three places behind it.
@@ -11,22 +11,15 @@ pub struct Thousandths(pub f64);
 
 impl fmt::Display for Thousandths {
     fn fmt<W: fmt::Write>(&self, f: &mut fmt::Formatter<W>) -> fmt::Result {
-        if self.0.is_nan() {
-            return write!(f, "{:>COLUMNS$}", "not a number");
+        let time = self.0;
+        if time.is_nan() {
+            write!(f, "{:>COLUMNS$}", "not a number")
+        } else if time.is_infinite() {
+            let word = if time < 0.0 { "-infinite" } else { "infinite" };
+            write!(f, "{word:>COLUMNS$}")
+        } else {
+            write!(f, "{time:>COLUMNS$.3}")
         }
-        let is_negative = self.0.is_sign_negative();
-        if self.0.is_infinite() {
-            let word = if is_negative { "-infinite" } else { "infinite" };
-            return write!(f, "{word:>COLUMNS$}");
-        }
-        let count = BEFORE + 3;
-        let number = Decimal {
-            is_negative,
-            digits: Digits::of(self.0.to_bits()).rounded(count),
-            count,
-        };
-        let blanks = COLUMNS.saturating_sub(number.len());
-        write!(f, "{:blanks$}{number}", "")
     }
 }
 
@@ -38,51 +31,14 @@ impl fmt::Display for FifteenDigits {
     fn fmt<W: fmt::Write>(&self, f: &mut fmt::Formatter<W>) -> fmt::Result {
         let exact = Digits::of(self.0);
         let digits = exact.rounded(exact.fifteen());
-        let number = Decimal {
-            is_negative: self.0 >> 63 == 1,
-            digits,
-            count: digits.used(),
-        };
-        write!(f, "{number}")
-    }
-}
-
-// A number by its first digits.
-#[derive(Clone, Copy)]
-struct Decimal {
-    is_negative: bool,
-    digits: Digits,
-    count: usize,
-}
-
-impl Decimal {
-    // The digits before the point; a zero is left out where it would be the sixteenth digit.
-    fn whole(&self) -> &[u8] {
-        if self.count < BEFORE + 15 {
-            self.digits.before_point()
-        } else {
-            &[]
-        }
-    }
-
-    // How many characters it has.
-    fn len(&self) -> usize {
-        let places = self.digits.behind_point(self.count).len();
-        let point = usize::from(places > 0);
-        usize::from(self.is_negative)
-            .saturating_add(self.whole().len())
-            .saturating_add(point)
-            .saturating_add(places)
-    }
-}
-
-impl fmt::Display for Decimal {
-    fn fmt<W: fmt::Write>(&self, f: &mut fmt::Formatter<W>) -> fmt::Result {
-        if self.is_negative {
+        if self.0 >> 63 == 1 {
             f.write_str("-")?;
         }
-        say_digits(f, self.whole())?;
-        let places = self.digits.behind_point(self.count);
+        // A zero is left out where it would be the sixteenth digit.
+        let places = digits.behind_point();
+        if places.len() < 15 {
+            say_digits(f, digits.before_point())?;
+        }
         if !places.is_empty() {
             f.write_str(".")?;
         }

@@ -1,8 +1,9 @@
-// The decimal digits of a float, all of them: every float has at most 309 before the point and 1,074 behind it.
+// The decimal digits of a float, all of them: every float has at most 309 before the point and 1,074 behind it. By hand, since `Display` gives the shortest
+// digits of a float or so many places, and not so many digits.
 const LENGTH: usize = 1383;
 
 // How many of them stand before the point.
-pub const BEFORE: usize = 309;
+const BEFORE: usize = 309;
 
 // 2^52, which parts the bits of a float: below it stands the fraction, above it the exponent.
 const FRACTIONS: u64 = 0x0010_0000_0000_0000;
@@ -87,9 +88,9 @@ impl Digits {
         &self.all[self.zeros().min(BEFORE)..BEFORE]
     }
 
-    // The digits behind the point, so many as make `count` with those before it.
-    pub fn behind_point(&self, count: usize) -> &[u8] {
-        &self.all[BEFORE..count.clamp(BEFORE, LENGTH)]
+    // The digits behind the point, up to the last that is not 0.
+    pub fn behind_point(&self) -> &[u8] {
+        &self.all[BEFORE..self.used().clamp(BEFORE, LENGTH)]
     }
 
     // How many zeros stand before the first other digit, or before the unit.
@@ -102,7 +103,7 @@ impl Digits {
     }
 
     // How many digits there are up to the last that is not 0 behind the point, or up to the unit.
-    pub fn used(&self) -> usize {
+    fn used(&self) -> usize {
         match self.all.iter().rposition(|digit| *digit > 0) {
             Some(last) => BEFORE.max(last.saturating_add(1)),
             None => BEFORE,

@@ -1,4 +1,4 @@
-// Reads the answers of the program replay and shows them for a person: each report, and what was refused.
+// Reads the answers of the program replay and shows them for a person: each scenario that was taken, each report, and what was refused.
 #![tactic(auto)]
 
 mod answers;

@@ -1,11 +1,12 @@
 // A setting as an argument.
 use crate::decimal::FifteenDigits;
-use script::{patterns, words};
+use script::patterns;
 use std::io::Write;
 use std::{fmt, io};
 
-// What a setting is for: both directions until a bracket opens; not that of engine_words, which has no word for both and would bring in the engine.
-#[derive(Clone, Copy, PartialEq, Eq)]
+// What a setting is for: both directions until a bracket opens. Not an `Option` of `engine_words::Direction`: `Display` would need a type around it all the
+// same, and this program would take in the engine.
+#[derive(Clone, Copy, Debug, PartialEq, Eq)]
 pub enum Direction {
     Both,
     ClientToServer,
@@ -33,24 +34,22 @@ impl fmt::Display for Direction {
     }
 }
 
-// How an argument has the value of a setting: as it stands, or in decimal what stands as bits.
-#[derive(Clone, Copy)]
-enum Form {
-    Same,
-    Decimal,
-}
-
 // Shows a setting as an argument, but not one that is unset for a direction.
 pub fn show<W: Write>(out: &mut W, direction: Direction, word: &[u8]) -> io::Result<()> {
-    let (name, value) = words::split_at_byte(word, b'=');
-    let Some(value) = value else {
+    let Some((name, value)) = values::split_once(word, b'=') else {
         return show_window(out, direction, word);
     };
     if direction != Direction::Both && is_unset(value) {
         return Ok(());
     }
-    let (key, form) = key_of(name);
-    show_argument(out, direction, key, form, value)
+    let key = key_of(name).unwrap_or_default();
+    write!(out, "  --{direction}{key}=")?;
+    if has_floats(name) {
+        show_decimals(out, value)?;
+    } else {
+        out.write_all(value)?;
+    }
+    writeln!(out)
 }
 
 fn is_unset(value: &[u8]) -> bool {
@@ -59,49 +58,45 @@ fn is_unset(value: &[u8]) -> bool {
 
 // A blackout or a kill: a letter, and then the window as the argument has it.
 fn show_window<W: Write>(out: &mut W, direction: Direction, word: &[u8]) -> io::Result<()> {
-    match word {
-        [b'b', window @ ..] => show_argument(out, direction, "blackout", Form::Same, window),
-        [_, window @ ..] => show_argument(out, direction, "kill", Form::Same, window),
-        [] => show_argument(out, direction, "kill", Form::Same, word),
-    }
+    let (key, window) = match word {
+        [b'b', window @ ..] => ("blackout", window),
+        [_, window @ ..] => ("kill", window),
+        [] => ("kill", word),
+    };
+    write!(out, "  --{direction}{key}=")?;
+    out.write_all(window)?;
+    writeln!(out)
 }
 
 // The key of the option whose setting has this name in an answer.
-fn key_of(name: &[u8]) -> (&'static str, Form) {
+fn key_of(name: &[u8]) -> Option<&'static str> {
     match name {
-        b"mode" => ("mode", Form::Same),
-        b"seed" => ("seed", Form::Same),
-        b"duration" => ("duration-ms", Form::Same),
-        b"verbose" => ("verbose", Form::Same),
-        b"cap" => ("queue-cap", Form::Same),
-        b"loss" => ("loss", Form::Decimal),
-        b"ge" => ("ge", Form::Decimal),
-        b"delay" => ("delay-ms", Form::Decimal),
-        b"jitter" => ("jitter-ms", Form::Decimal),
-        b"reorder" => ("reorder", Form::Decimal),
-        b"rdelay" => ("reorder-delay-ms", Form::Decimal),
-        b"dup" => ("duplicate", Form::Decimal),
-        b"rate" => ("rate-bps", Form::Same),
-        b"burst" => ("rate-burst-bytes", Form::Same),
-        b"mtu" => ("mtu", Form::Same),
-        b"nat" => ("nat-change-every-ms", Form::Same),
-        _ => ("", Form::Same),
+        b"mode" => Some("mode"),
+        b"seed" => Some("seed"),
+        b"duration" => Some("duration-ms"),
+        b"verbose" => Some("verbose"),
+        b"cap" => Some("queue-cap"),
+        b"loss" => Some("loss"),
+        b"ge" => Some("ge"),
+        b"delay" => Some("delay-ms"),
+        b"jitter" => Some("jitter-ms"),
+        b"reorder" => Some("reorder"),
+        b"rdelay" => Some("reorder-delay-ms"),
+        b"dup" => Some("duplicate"),
+        b"rate" => Some("rate-bps"),
+        b"burst" => Some("rate-burst-bytes"),
+        b"mtu" => Some("mtu"),
+        b"nat" => Some("nat-change-every-ms"),
+        _ => None,
     }
 }
 
-fn show_argument<W: Write>(
-    out: &mut W,
-    direction: Direction,
-    key: &str,
-    form: Form,
-    value: &[u8],
-) -> io::Result<()> {
-    write!(out, "  --{direction}{key}=")?;
-    match form {
-        Form::Same => out.write_all(value)?,
-        Form::Decimal => show_decimals(out, value)?,
-    }
-    writeln!(out)
+// Whether the setting's value is floats, which stand as bits in an answer and in decimal in an argument.
+fn has_floats(name: &[u8]) -> bool {
+    matches!(
+        name,
+        b"loss" | b"ge" | b"delay" | b"jitter" | b"reorder" | b"rdelay" | b"dup"
+    )
 }
 
 // Floats, which colons part; a colon that no float stands before is not shown.

@@ -6,7 +6,8 @@ use std::io::Write;
 
 // Shows a refusal, whose number `rest` is, with its reason in words.
 pub fn show<W: Write>(out: &mut W, number: u64, rest: &[u8]) -> io::Result<()> {
-    let told = words::whole_of(rest).unwrap_or(0);
+    // A word that is no number is shown as 0.
+    let told = words::whole_of(rest).unwrap_or_default();
     write!(out, "line {number}, refused {told}: ")?;
     if let Some(refusal) = refusal_of(rest) {
         write!(out, "{refusal}")?;

@@ -18,7 +18,8 @@ pub struct Drops {
     pub blackout: u64,
 }
 
-// The latencies of what was sent: how many, how many in each bucket, and their sum, least and greatest in milliseconds.
+// The latencies of what was sent: how many, how many in each bucket, and their sum, least and greatest in milliseconds. Not `accounts::LatencyStats`: so the
+// reader of answers needs no crate of the engine.
 #[derive(Clone, Copy)]
 pub struct Latencies {
     pub count: u64,
@@ -62,7 +63,7 @@ impl Report {
             held: count_named(&mut words, b"held")?,
             torn: count_named(&mut words, b"torn")?,
         };
-        if words.is_empty() { Some(report) } else { None }
+        words.is_empty().then_some(report)
     }
 }
 

@@ -1,7 +1,6 @@
 // The settings of a `taken` line as the arguments that give them.
 use crate::option;
 use crate::option::Direction;
-use script::words;
 use std::io;
 use std::io::Write;
 
@@ -32,6 +31,6 @@ fn behind(direction: Direction, word: &[u8]) -> Direction {
 // The word without its brackets and the blank behind it.
 fn bare(word: &[u8]) -> &[u8] {
     let word = word.strip_suffix(b" ").unwrap_or(word);
-    let (inner, _) = words::split_at_byte(word, b']');
+    let inner = values::before_first(word, b']');
     inner.strip_prefix(b"[").unwrap_or(inner)
 }

@@ -17,7 +17,7 @@ pub fn fits(cap: u32, leaves: u32, slot: u32) -> bool
     (cap <= MAX_CAPACITY) & (leaves <= cap) & (slot < cap) & (slot <= leaves)
 }
 
-// The slot at the root.
+// The slot at the root. No `Option`: where `win` was altered it may be one that has no leaf, and the caller refuses that by 26.
 #[tactic(auto, unfolding(crate::specs::Calls::least_of))]
 pub fn least(win: &[u32], leaves: u32) -> u32
     ensures { result ≡ least_of win.now leaves }
@@ -38,8 +38,8 @@ impl TreeMut<'_> {
         self.climb(leaves as usize, slot);
     }
 
-    // The slot, which was free, gets the key (due_ms, seq), and a leaf if it has none. Returned is the number of leaves. Nothing
-    // changes where the slot cannot enter.
+    // The slot, which was free, gets the key (due_ms, seq), and a leaf if it has none. Nothing changes where the slot cannot enter,
+    // as `fits` tells. Returned is the number of leaves, and no `Option`, since it is the queue's next one in either case.
     pub fn enter(&mut self, cap: u32, leaves: u32, slot: u32, due_ms: f64, seq: u64) -> u32
         ensures made { tree_in result self.new ≡ enter_of cap slot due_ms seq (tree_in leaves self.old) }
         ensures same { SameTables self.old self.new }
@@ -52,16 +52,13 @@ impl TreeMut<'_> {
         more
     }
 
-    // The slot gets the key of a free one. Nothing changes where it has no leaf.
+    // The slot gets the key of a free one. Nothing changes where it has no leaf, or there are more leaves than slots may be.
     #[tactic(auto, unfolding(crate::specs::Calls::leave_of, crate::specs::Calls::freed_of))]
     pub fn leave(&mut self, leaves: u32, slot: u32)
         ensures made { tree_in leaves self.new ≡ leave_of slot (tree_in leaves self.old) }
         ensures same { SameTables self.old self.new }
     {
-        if MAX_CAPACITY < leaves {
-            return;
-        }
-        if leaves <= slot {
+        if MAX_CAPACITY < leaves || leaves <= slot {
             return;
         }
         tables::set(self.dues, slot as usize, FREE_DUE);

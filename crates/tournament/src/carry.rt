@@ -14,14 +14,14 @@ impl TreeMut<'_> {
         ensures made { tree_in leaves self.new ≡ tree leaves (carried_of self.old.dues.now self.old.seqs.now leaves (leaves + slot) self.old.win.now (leaves + slot) slot) self.old.dues.now self.old.seqs.now }
         ensures same { SameTables self.old self.new }
     {
-        // A `while`, since each turn needs the node and the best so far, and writes the table that it reads.
+        // A `while`, since the ancestors of a leaf are no range.
         let mut node = leaves + slot as usize;
         let mut best = (slot, self.shared().due(slot));
         while 1 < node {
             let tree = self.shared();
             let other = tree.sibling_slot(leaves, node);
             best = tree.better((other, tree.due(other)), best);
-            node = node / 2;
+            node /= 2;
             tables::set(self.win, node, best.0);
         }
     }

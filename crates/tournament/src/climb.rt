@@ -15,7 +15,7 @@ impl TreeMut<'_> {
         ensures same { SameTables self.old self.new }
     {
         let due = self.shared().due(slot);
-        // A `while`, since each turn writes the table that the next one reads, and may be the last.
+        // A `while`, since the ancestors of a leaf are no range.
         let mut node = leaves + slot as usize;
         while 1 < node {
             let tree = self.shared();
@@ -23,7 +23,7 @@ impl TreeMut<'_> {
             if tree.before((other, tree.due(other)), (slot, due)) {
                 return;
             }
-            node = node / 2;
+            node /= 2;
             tables::set(self.win, node, slot);
         }
     }

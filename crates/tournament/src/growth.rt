@@ -6,7 +6,7 @@ ghost use Rattle.tournament.specs.Growth.{free_dues, free_seqs, built_of, tree, 
 
 use crate::tree::TreeMut;
 
-// The key of a slot that holds no copy: no copy has this seq.
+// The key of a slot that holds no copy: no copy has `FREE_SEQ`. The lent tables are plain numbers, with no room for an `Option`.
 pub(crate) const FREE_DUE: f64 = f64::INFINITY;
 
 pub(crate) const FREE_SEQ: u64 = 0xFFFF_FFFF_FFFF_FFFF;
@@ -25,7 +25,7 @@ impl TreeMut<'_> {
         ensures made { tree_in to self.new ≡ tree to self.old.win.now (free_dues from to self.old.dues.now) (free_seqs from to self.old.seqs.now) }
         ensures same { SameTables self.old self.new }
     {
-        // By index, since either table may be the shorter one, and the two loops over parts that fit would be longer.
+        // By index, since either table may be the shorter one, and a `fill` would need a bound for each.
         for i in from..to {
             tables::set(self.dues, i, FREE_DUE);
             tables::set(self.seqs, i, FREE_SEQ);

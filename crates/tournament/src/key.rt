@@ -20,7 +20,7 @@ impl Tree<'_> {
         self.seq(a) < self.seq(b)
     }
 
-    // Whether the key of one slot, given with its due, is before another's. The seqs are read on a tie only.
+    // Whether the key of one slot, given with its due, is before another's. Not by the order of tuples, since the seqs are read on a tie only.
     #[tactic(auto, unfolding(held::specs::Order::before_of))]
     pub(crate) fn before(self, a: (u32, f64), b: (u32, f64)) -> bool
         ensures { result ≡ before_of a.1 (get_or self.entry.seqs.now a.0 0) b.1 (get_or self.entry.seqs.now b.0 0) }
@@ -41,7 +41,8 @@ impl Tree<'_> {
     }
 
     // Of two slots, given with their dues, the one whose key is before the other's. The lesser due is chosen without a branch, since no
-    // processor can predict which one it is; a tie is rare and has a branch of its own.
+    // processor can predict which one it is (with a branch a round took 69 ns in place of 39: docs/BENCHMARKS.md); a tie is rare and has
+    // a branch of its own.
     #[tactic(auto, unfolding(held::specs::Order::before_of))]
     pub(crate) fn better(self, a: (u32, f64), b: (u32, f64)) -> (u32, f64)
         ensures { result ≡ cond (before_of a.1 (get_or self.entry.seqs.now a.0 0) b.1 (get_or self.entry.seqs.now b.0 0)) a b }

@@ -1,5 +1,5 @@
 // The lent tables of a tree: `win` has the winners at its nodes, `dues` and `seqs` the keys of its slots.
-// Document 01 has each field of a copy as a table of its own.
+// Document 01 has each field of a copy as a table of its own. The number of leaves is the queue's state and not lent, so it comes beside them.
 ghost use Rattle.std.specs.Prelude.{◌≡◌, get_or};
 ghost use Rattle.numbers.specs.Whole.{whole};
 

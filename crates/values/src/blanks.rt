@@ -22,7 +22,7 @@ fn trim_start(s: &[u8]) -> &[u8]
     left
 }
 
-// The bytes without the blanks at the end.
+// The bytes without the blanks at the end. Apart from `trim_start`, since each end has a clause of its own and one function would take the split as a closure.
 fn trim_end(s: &[u8]) -> &[u8]
     ensures { result.now ≡ trim_end s.now }
 {
@@ -36,7 +36,7 @@ fn trim_end(s: &[u8]) -> &[u8]
     left
 }
 
-// The bytes without the blanks around them.
+// The bytes without the blanks around them. By hand, since std's `trim_ascii` leaves the byte 11.
 pub fn trim(s: &[u8]) -> &[u8]
     ensures { result.now ≡ trimmed s.now }
 {

@@ -3,15 +3,16 @@ ghost use Rattle.std.specs.Prelude.{◌≡◌, ◌==◌, take, drop, position};
 ghost use Rattle.std.specs.Option.{option_map};
 ghost use Rattle.values.specs.Bytes.{up_to, before_first, behind_first, split_once};
 
-// The bytes from `from` on; none where it is past the end. Beside `front` a function of its own, since a caller's count may be any and std's ranges ask that it fits.
+// The bytes from `from` on; none where it is past the end. It and `front` stand over `get`, since a count may be past the end: one then gives nothing, and the
+// other all.
 pub fn after(s: &[u8], from: usize) -> &[u8]
     ensures { result.now ≡ drop from s.now }
 {
     s.get(from..).unwrap_or(&[])
 }
 
-// The first n bytes, or all where there are fewer.
-pub fn front(s: &[u8], n: usize) -> &[u8]
+// The first n, or all where there are fewer.
+pub fn front<T>(s: &[T], n: usize) -> &[T]
     ensures { result.now ≡ take n s.now }
 {
     s.get(..n).unwrap_or(s)

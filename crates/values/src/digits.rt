@@ -17,7 +17,8 @@ fn digit_from(b: u8, n: u64) -> Result<u64, Refusal>
         .ok_or(Refusal::Whole)
 }
 
-// The digits of s read on from n; refused where a byte is no digit or the number reaches 2^64.
+// The digits of s read on from n; refused where a byte is no digit or the number reaches 2^64. By hand, since a value is bytes and no text, and the digits behind
+// a point are read on from those before it.
 pub fn digits_from(s: &[u8], n: u64) -> Result<u64, Refusal>
     ensures { result ≡ digits_from n s.now }
 {

@@ -1,6 +1,6 @@
 // Records of the accounts as text: every counter in decimal, every float by its bits, each behind a blank.
 use accounts::{DirectionStats, LatencyStats, SendAccountant};
-use output::{Bits, Counts};
+use output::{Bits, Each};
 use std::fmt;
 
 #[derive(Clone, Copy)]
@@ -16,7 +16,7 @@ impl fmt::Display for Sends<'_> {
             a.tcp_rst_kills,
             a.nat_rebinds,
         ];
-        write!(f, "{}{}", Counts(&counts), Latencies(a.latency))
+        write!(f, "{}{}", Each(&counts), Latencies(a.latency))
     }
 }
 
@@ -42,14 +42,8 @@ impl fmt::Display for Stats<'_> {
             s.nat_rebinds,
             s.tcp_rst_kills,
         ];
-        let latencies = LatencyStats {
-            count: s.latency_count,
-            sum_ms: s.latency_sum_ms,
-            min_ms: s.latency_min_ms,
-            max_ms: s.latency_max_ms,
-            hist: s.hist,
-        };
-        write!(f, "{}{}", Counts(&counts), Latencies(latencies))
+        let latencies = LatencyStats::from(s);
+        write!(f, "{}{}", Each(&counts), Latencies(latencies))
     }
 }
 
@@ -62,6 +56,6 @@ impl fmt::Display for Latencies {
         let l = &self.0;
         write!(f, " {} {}", l.count, Bits(l.sum_ms))?;
         write!(f, " {} {}", Bits(l.min_ms), Bits(l.max_ms))?;
-        write!(f, "{}", Counts(&l.hist))
+        write!(f, "{}", Each(&l.hist))
     }
 }

@@ -2,7 +2,7 @@
 use crate::held::Held;
 use accounts::{DirectionStats, LatencyStats, SendAccountant};
 
-// The least number that is refused as a counter, by refusal 25.
+// The least number that is refused as a counter, by refusal 25: 2^60, the tests' own figure, written apart from the code on purpose.
 pub const COUNTER_LIMIT: u64 = 0x1000_0000_0000_0000;
 
 const GREATEST_COUNTER: u64 = COUNTER_LIMIT - 1;

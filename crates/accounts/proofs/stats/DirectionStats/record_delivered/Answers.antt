@@ -14,8 +14,8 @@ counted : (c : Else-not-in_range) → are_counters (stats_counters c.args.self) 
 counted c = sym c.in_range.ensures ∙ c.if-not-in_range.false
 
 pub record-requires : goal.record-requires
-record-requires c = rw c.latencies-recorded.ensures (small_stats c.args.self (counted (goal.at.record-requires c).Else-not-in_range)).latencies
+record-requires c = rw c.from-recorded.ensures (small_stats c.args.self (counted (goal.at.record-requires c).Else-not-in_range)).latencies
 
 pub returns : goal.returns
 unfolding record_delivered_of
-returns c = rw (counted (goal.at.returns c).Else-not-in_range, c.with_latencies.ensures, c.record.ensures, c.latencies-recorded.ensures)
+returns c = rw (counted (goal.at.returns c).Else-not-in_range, c.with_latencies.ensures, c.record.ensures, c.from-recorded.ensures)

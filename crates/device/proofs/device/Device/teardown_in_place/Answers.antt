@@ -10,6 +10,8 @@ use Rattle.queue.specs.declared.queue.ImpairQueue.{ImpairQueue}
 use Rattle.admission.specs.Admitted.{torn_by, torn_of}
 use Rattle.admission.specs.Follow.{follow_of}
 use Rattle.admission.specs.Laws.Bounds.{follow_bounds}
+use Rattle.numbers.specs.Checks.{first_refusal, check_of}
+use Rattle.device.specs.Refusals.{call_refusal}
 use Rattle.device.proofs.RefusalSteps.{no_refusal}
 use Rattle.device.proofs.device.Device.teardown_in_place.Goals as goal
 
@@ -19,5 +21,6 @@ unfolding follow_of torn_of torn_by
 drained_within q d n ed h = (rw (← ed, h) at (follow_bounds 0 q (tables [] [] [] [] [] [] [] [] []) KillRst (whole 0) 0 [])).torn_within
 
 pub overflow_add-self : goal.overflow_add-self
+unfolding call_refusal first_refusal check_of
 overflow_add-self c =
-    omega (arith, counter_below c.args.self.now.torn (no_refusal c.args.self.now true true true (sym c.judged.ensures ∙ c.in_ok-judged.was)).torn, drained_within _ _ _ c.drain-drained.ensures c.in-Ok.is)
+    omega (arith, counter_below c.args.self.now.torn (no_refusal c.args.self.now true true true (sym c.judge_counters.ensures ∙ c.in_ok-judge_counters.was)).torn, drained_within _ _ _ c.drain-drained.ensures c.in-Ok.is)

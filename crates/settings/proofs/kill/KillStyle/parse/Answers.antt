@@ -1,7 +1,7 @@
 -- Neither of the two words is the style.
 use Rattle.std.proofs.Common.{◌≡◌, false, sym, ◌∙◌}
 use Rattle.values.specs.Bytes.{bytes, same}
-use Rattle.settings.proofs.kill.parse_style.Goals as goal
+use Rattle.settings.proofs.kill.KillStyle.parse.Goals as goal
 
 pub returns-else-eq-2 : goal.returns-else-eq-2
 returns-else-eq-2 c =
