@@ -60,7 +60,7 @@ fn minimum_with(count: u64, min_ms: f64, latency_ms: f64) -> f64
     }
 }
 
-// The maximum with one latency more. Unlike the minimum it does not ask whether there was one before.
+// The maximum with one latency more. Apart from `minimum_with`, as in the source: the first latency does not set the maximum.
 #[tactic(auto, unfolding(crate::specs::Latency::maximum_with_of))]
 fn maximum_with(max_ms: f64, latency_ms: f64) -> f64
     ensures { result ≡ maximum_with_of max_ms latency_ms }

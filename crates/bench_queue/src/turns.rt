@@ -21,8 +21,8 @@ pub(crate) struct Turns {
     pub sum: u64,
 }
 
-// The next state of the generator xorshift64. The driver in Rust (oracle/src/bench_queue.rs) has the same lines. With `draws::Rng` a round took 634
-// instructions in place of 606, and as little as can be is to be timed beside the queue.
+// The next state of the generator xorshift64. The driver in Rust (oracle/src/bench_queue.rs) has the same lines. Tried with `draws::Rng`: a round
+// took 634 instructions in place of 606, and the ratio to the Rust is not to rise.
 fn next(state: u64) -> u64 {
     let mut x = state;
     x ^= x << 13;

@@ -19,7 +19,7 @@ impl Device {
             & numbers::is_counter(self.queue.next_seq)
     }
 
-    // Refuses a call by 25, which every call judges last.
+    // Refuses a call by 25, after the tests of what is handed in.
     pub(crate) fn judge_counters(&self) -> Result<(), Refusal>
         ensures { result ≡ check_of (in_range self.now.engine self.now.accounts self.now.torn self.now.queue.next_seq) Counter }
     {

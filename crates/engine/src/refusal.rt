@@ -17,7 +17,7 @@ impl ArrivalEngine {
         numbers::is_counter(self.rebinds_done) & self.stats.in_range()
     }
 
-    // Refuses a call by 25, which every call judges last.
+    // Refuses a call by 25, after the tests of what is handed in.
     pub(crate) fn judge_counters(&self) -> Result<(), Refusal>
         ensures refusal { result ≡ check_of (counters_pass self.now) Counter }
         ensures counted { OnOk result (Counted self.now) }

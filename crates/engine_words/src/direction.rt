@@ -8,7 +8,7 @@ pub enum Direction {
 }
 
 impl Direction {
-    // The direction that a word names. Not a `TryFrom`: its error would need a type of its own, which no program would read.
+    // The direction that a word names. Not a `TryFrom`: the one thing to say of another word is that it is none.
     pub fn of(word: &[u8]) -> Option<Self> {
         match word {
             b"c2s" => Some(Direction::ClientToServer),

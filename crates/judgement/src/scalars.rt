@@ -5,7 +5,7 @@ ghost use Rattle.judgement.specs.Scalars.{are_scalars_of};
 use crate::setting::{is_bounded, is_ge, is_limit, is_probability, is_time};
 use options::DirectionConfig;
 
-// Whether refusal 29 lets all of them through. Joined by `&`: with `&&` the proof does not close but by hand, joint by joint.
+// Whether refusal 29 lets all of them through. Joined by `&`: with `&&` the proof closes only by hand, test by test.
 pub(crate) fn are_scalars(cfg: &DirectionConfig) -> bool
     ensures { result ≡ are_scalars_of cfg.now }
 {

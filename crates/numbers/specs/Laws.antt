@@ -7,6 +7,7 @@ pub mod Kinds
 pub mod NotNan
 pub mod Order
 pub mod Extremes
+pub mod Sign
 pub mod Values
 pub mod Whole
 pub mod Bounded
@@ -23,5 +24,6 @@ pub mod Limits
 pub mod Checks
 pub mod Nearest
 pub mod Decimals
+pub mod Counted
 pub mod Results
 pub mod Literals

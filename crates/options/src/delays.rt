@@ -1,4 +1,5 @@
 // The options of a direction that delay packets.
+// Values are read by closures, since a free function of another crate has no proof where it is passed by its name.
 ghost use Rattle.std.specs.Prelude.{◌≡◌};
 ghost use Rattle.options.specs.Directions.{delay_and_jitter_of, delayed_of, reorder_delay_of, reordering_of, delays_of};
 
@@ -19,7 +20,6 @@ pub struct Delays {
 fn delay_and_jitter(keys: Keys) -> Result<(f64, f64), Refusal>
     ensures { result ≡ delay_and_jitter_of keys.entry.text.now keys.entry.prefix.now }
 {
-    // Closures, since a free function of another crate has no proof where it is passed by its name.
     let delay_ms = keys.last(b"delay-ms").map_or(Ok(0.0), |v| parse_f64_ms(v))?;
     let jitter_ms = keys
         .last(b"jitter-ms")

@@ -1,4 +1,5 @@
 // The options of a direction that duplicate packets and limit rate and length.
+// Values are read by closures, since a free function of another crate has no proof where it is passed by its name.
 ghost use Rattle.std.specs.Prelude.{◌≡◌};
 ghost use Rattle.options.specs.Directions.{default_burst_of, burst_of, rate_and_burst_of, mtu_of, limits_of};
 
@@ -41,7 +42,6 @@ pub fn burst_of(burst: u64, rate: Option<u64>) -> u64
 fn rate_and_burst(keys: Keys) -> Result<(Option<u64>, u64), Refusal>
     ensures { result ≡ rate_and_burst_of keys.entry.text.now keys.entry.prefix.now }
 {
-    // Closures, since a free function of another crate has no proof where it is passed by its name.
     let rate = keys
         .last(b"rate-bps")
         .map(|v| parse_positive(v))

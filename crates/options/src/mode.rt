@@ -13,7 +13,7 @@ pub enum Mode {
 }
 
 impl Mode {
-    // No `TryFrom`: the source reads windows and kill styles by a `parse`, and this follows.
+    // No `TryFrom`: a `parse`, like those that the source has for windows and kill styles.
     pub fn parse(v: &[u8]) -> Result<Mode, Refusal>
         ensures { result ≡ parse_mode_of v.now }
     {

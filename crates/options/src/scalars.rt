@@ -1,4 +1,5 @@
 // The options that stand for the whole line.
+// Values are read by closures, since a free function of another crate has no proof where it is passed by its name.
 ghost use Rattle.std.specs.Prelude.{◌≡◌};
 ghost use Rattle.options.specs.Scalars.{yes_of, verbose_of, mode_and_seed_of, duration_of, queue_cap_of, line_scalars_of};
 
@@ -47,7 +48,6 @@ fn mode_and_seed(text: &[u8]) -> Result<(Mode, u64), Refusal>
     ensures { result ≡ mode_and_seed_of text.now }
 {
     let mode = last_of(text, b"", b"mode").map_or(Ok(Mode::Udp), Mode::parse)?;
-    // A closure, since a free function of another crate has no proof where it is passed by its name.
     let seed = last_of(text, b"", b"seed").map_or(Ok(DEFAULT_SEED), |v| parse_u64(v))?;
     Ok((mode, seed))
 }

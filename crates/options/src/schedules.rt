@@ -1,4 +1,5 @@
 // The options of a direction that name times.
+// Values are read by closures, since a free function of another crate has no proof where it is passed by its name.
 ghost use Rattle.std.specs.Prelude.{◌≡◌};
 ghost use Rattle.options.specs.Directions.{schedules_of};
 
@@ -19,7 +20,6 @@ pub fn schedules_of(keys: Keys) -> Result<Schedules, Refusal>
     ensures { result ≡ schedules_of keys.entry.text.now keys.entry.prefix.now }
 {
     let blackouts = keys.entries(b"blackout")?;
-    // A closure, since a free function of another crate has no proof where it is passed by its name.
     let nat_change_every_ms = keys
         .last(b"nat-change-every-ms")
         .map_or(Ok(0), |v| parse_positive(v))?;

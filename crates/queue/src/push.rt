@@ -110,8 +110,8 @@ impl ImpairQueue {
         ensures pushed { after result (entry_tables tree.new free.now rows.new) ≡ push_of slot_width self (entry_tables tree.old free.now rows.old) packet.due_ms packet.arrival_ms packet.route packet.copy_id packet.duplicated bytes.now }
         ensures same { SameTables tree.old tree.new × SameRows rows.old rows.new }
     {
-        let memory = self.has_memory(Sizes::of(tree.shared(), free, rows.shared()));
-        if let Err(refusal) = self.judge_push(memory, packet, bytes.len()) {
+        let sizes = Sizes::of(tree.shared(), free, rows.shared());
+        if let Err(refusal) = self.judge_push(sizes, packet, bytes.len()) {
             return (self, Err(refusal));
         }
         self.enter_copies(tree, free, rows, packet, bytes)

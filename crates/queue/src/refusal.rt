@@ -38,10 +38,10 @@ impl ImpairQueue {
 
     // The refusal that meets a release.
     #[tactic(auto, unfolding(crate::specs::Refusals::release_refusal, crate::specs::Refusals::state_refusal, numbers::specs::Checks::first_refusal, numbers::specs::Checks::check_of))]
-    pub(crate) fn judge_release(self, memory: bool, now_ms: f64) -> Result<(), Refusal>
-        ensures { result ≡ release_refusal self memory now_ms }
+    pub(crate) fn judge_release(self, sizes: Sizes, now_ms: f64) -> Result<(), Refusal>
+        ensures { result ≡ release_refusal self (room_of slot_width self.cap sizes) now_ms }
     {
-        check(memory, Refusal::Memory)?;
+        check(self.has_memory(sizes), Refusal::Memory)?;
         check(numbers::is_instant(now_ms), Refusal::Instant)?;
         self.judge_state()
     }
@@ -50,13 +50,13 @@ impl ImpairQueue {
     #[tactic(auto, unfolding(crate::specs::Refusals::push_refusal, crate::specs::Refusals::state_refusal, numbers::specs::Checks::first_refusal, numbers::specs::Checks::check_of))]
     pub(crate) fn judge_push(
         self,
-        memory: bool,
+        sizes: Sizes,
         packet: Packet,
         length: usize,
     ) -> Result<(), Refusal>
-        ensures { result ≡ push_refusal slot_width self memory packet.due_ms packet.arrival_ms length }
+        ensures { result ≡ push_refusal slot_width self (room_of slot_width self.cap sizes) packet.due_ms packet.arrival_ms length }
     {
-        check(memory, Refusal::Memory)?;
+        check(self.has_memory(sizes), Refusal::Memory)?;
         check(numbers::is_instant(packet.arrival_ms), Refusal::Instant)?;
         check(length <= SLOT_WIDTH as usize, Refusal::Length)?;
         check(!packet.due_ms.is_nan(), Refusal::Due)?;

@@ -73,8 +73,8 @@ impl ImpairQueue {
         ensures same { SameTables tree.old tree.new }
     {
         let seen = tree.shared();
-        let memory = self.has_memory(Sizes::of(seen, free, rows));
-        if let Err(refusal) = self.judge_release(memory, now_ms) {
+        let sizes = Sizes::of(seen, free, rows);
+        if let Err(refusal) = self.judge_release(sizes, now_ms) {
             return (self, Err(refusal));
         }
         if self.held == 0 {

@@ -6,7 +6,7 @@ ghost use Rattle.queue.specs.Refusals.{slot_width};
 
 use crate::store::SLOT_WIDTH;
 
-// The packet of which copies enter. Its bytes come beside it: with them in the struct each signature would name their lifetime, and none would be shorter.
+// The packet of which copies enter. Its bytes come beside it: in the struct, `Packet` and all that hold one would name their lifetime.
 #[derive(Clone, Copy, Debug, PartialEq)]
 pub struct Packet {
     pub due_ms: f64,

@@ -45,7 +45,8 @@ impl Marks {
     }
 }
 
-// The bits of a float, and 1 for every NaN, since 0 are the bits of 0. With an `Option`, as in `device_edges`, each use would be a closure with `unwrap_or`.
+// The bits of a float, and 1 for every NaN, since the bits 0 are those of the number 0. With an `Option`, as in `device_edges`, each use would be a closure
+// with `unwrap_or`.
 fn bits(x: &f64) -> u64 {
     if x.is_nan() { 1 } else { x.to_bits() }
 }

@@ -25,7 +25,7 @@ impl Ge {
         Ok(Ge { p, r, h })
     }
 
-    // P:R:H. No `TryFrom`: the source reads windows and kill styles by a `parse`, and this follows.
+    // P:R:H. No `TryFrom`: a `parse`, like those that the source has for windows and kill styles.
     pub fn parse(v: &[u8]) -> Result<Ge, Refusal>
         ensures { result ≡ parse_ge_of v.now }
     {
