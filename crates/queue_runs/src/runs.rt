@@ -41,7 +41,8 @@ fn call_of(drawn: Drawn, bytes: &mut [u8]) -> Call<'_> {
     }
 }
 
-// An answer in words, as which answers are compared: the bytes of a copy that left count by their sum, its slot does not, and 0 and -0 are apart.
+// An answer in words, as which answers are compared. Not by a derived `==`: the slot of a copy that left is not to count and the sum of its bytes is, and 0 and -0
+// are apart.
 fn words(
     alloc: Global,
     answer: Result<Answer, Refusal>,

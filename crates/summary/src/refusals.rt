@@ -6,7 +6,7 @@ use std::io::Write;
 
 // Shows a refusal, whose number `rest` is, with its reason in words.
 pub fn show<W: Write>(out: &mut W, number: u64, rest: &[u8]) -> io::Result<()> {
-    // A word that is no number is shown as 0, as ever: no answer of `replay` has one.
+    // Shown as 0 where the word is no number, so that the program prints what it always did.
     let told = words::whole_of(rest).unwrap_or_default();
     write!(out, "line {number}, refused {told}: ")?;
     if let Some(refusal) = refusal_of(rest) {
