@@ -13,7 +13,6 @@ fn main(rt: HostRuntime) -> io::Result<()> {
     let alloc = rt.alloc();
     let mut out = BufWriter::new(alloc, io::writer(&rt))?;
     let mut session = Session::new();
-    // The same lines as in `replay`: a shared function would take two closures, and a clause for each.
     script::lines::answer_calls(alloc, rt.reader(), &mut out, |line, out| {
         let Some(call) = Call::read(alloc, line)? else {
             return Ok(false);

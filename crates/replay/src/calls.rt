@@ -1,7 +1,6 @@
 // The calls of a script.
 use engine_words::Direction;
 use script::words::Words;
-use script::{hex, lines, words};
 use std::alloc::{AllocError, Global};
 
 // A packet that arrives; its bytes are made from their number and a seed.
@@ -36,13 +35,9 @@ pub enum Call {
 }
 
 impl Call {
-    // The call of a line, where it is one. The same lines as in `arrivals`: a shared function would take two closures, and a clause for each.
+    // The call of a line, where it is one.
     pub fn read(alloc: Global, line: &[u8]) -> Result<Option<Self>, AllocError> {
-        match words::split_word(line) {
-            (b"options", Some(digits)) => Ok(hex::decode(alloc, digits)?.map(Call::Options)),
-            _ if line.len() > lines::LONGEST => Ok(None),
-            _ => Ok(of_words(line)),
-        }
+        script::calls::call_of(alloc, line, Call::Options, of_words)
     }
 }
 

@@ -14,7 +14,6 @@ fn main(rt: HostRuntime) -> io::Result<()> {
     let alloc = rt.alloc();
     let mut out = BufWriter::new(alloc, io::writer(&rt))?;
     let mut session = Session::new(alloc)?;
-    // The same lines as in `arrivals`: a shared function would take two closures, and a clause for each.
     script::lines::answer_calls(alloc, rt.reader(), &mut out, |line, out| {
         let Some(call) = Call::read(alloc, line)? else {
             return Ok(false);
