@@ -4,11 +4,13 @@ mod impair;
 mod print;
 mod rng;
 mod stats;
+mod widths;
 
 use impair::{LatencyStats, SendAccountant};
 use print::{count, float, hex};
 use rng::Rng;
 use stats::{DirectionStats, BUCKET_BOUNDS_MS};
+use widths::LONGEST;
 
 const EDGES: [f64; 8] = [0.0, -0.0, 0.1, 1.0, -1.0, f64::INFINITY, f64::NEG_INFINITY, f64::NAN];
 
@@ -192,6 +194,13 @@ fn long_run(seed: u64) {
     println!("accounts_run{}{}{}", hex(seed), hex(fold), statistics(&s));
 }
 
+// Packets of more than 2,048 bytes.
+fn wide_packets() {
+    for len in [2_049, LONGEST - 1, LONGEST] {
+        send(&mut full_sends(), len, 0.5);
+    }
+}
+
 fn main() {
     let latencies = latencies();
     let (mut a, mut s) = (SendAccountant::default(), some_stats(0, 0));
@@ -199,7 +208,7 @@ fn main() {
     for (k, x) in latencies.iter().enumerate() {
         counted(&mut SendAccountant::default(), &mut DirectionStats::default(), 100, *x);
         counted(&mut a, &mut s, k, *x);
-        counted(&mut b, &mut t, 2048 - k, latencies[46 - k]);
+        counted(&mut b, &mut t, 2_048 - k, latencies[46 - k]);
     }
     for i in 0..8 {
         for j in 0..8 {
@@ -207,7 +216,7 @@ fn main() {
             merges(i, j);
         }
     }
-    send(&mut full_sends(), 2048, 0.5);
+    send(&mut full_sends(), 2_048, 0.5);
     deliver(&mut full_stats(), 0.5);
     merge(full_stats(), full_sends());
     for s in [DirectionStats::default(), some_stats(0, 0), full_stats()] {
@@ -216,4 +225,5 @@ fn main() {
     for seed in 1..=8 {
         long_run(seed);
     }
+    wide_packets();
 }

@@ -10,7 +10,6 @@ mod engine_calls;
 mod engine_texts;
 mod impair;
 mod instants;
-mod limits;
 mod long_texts;
 mod print;
 mod refusals;
@@ -22,12 +21,14 @@ mod streams;
 mod texts;
 mod values;
 mod well_formed;
+mod widths;
 
 use config::DirectionConfig;
 use engine_answers::Answers;
 use engine_calls::Calls;
 use split_mix::SplitMix;
 use std::io::{self, BufWriter, Write};
+use widths::LONGEST;
 
 // The counters of a statistics line.
 const COUNTERS: [&str; 11] = [
@@ -63,7 +64,7 @@ fn engine(r: &mut SplitMix, count: usize, out: &mut impl Write) -> io::Result<()
 
 // Prints so many calls on an engine of these settings; the last one asks for the statistics.
 fn calls(r: &mut SplitMix, settings: &DirectionConfig, count: usize, out: &mut impl Write) -> io::Result<()> {
-    let mut calls = Calls::new(settings);
+    let mut calls = Calls::new(settings, LONGEST);
     for _ in 1..count {
         writeln!(out, "{}", calls.line(r))?;
     }

@@ -6,41 +6,59 @@ mod lent;
 mod rng;
 mod stats;
 mod timing;
+mod widths;
 
 use arguments::arguments;
 use config::parse_config;
 use impair::{direction_seed, ArrivalEngine, Decision, ImpairQueue, SendAccountant};
-use lent::{Memory, SLOT_WIDTH};
+use lent::Memory;
 use std::time::Instant;
 use timing::{median, per_round, Ran};
+use widths::{DEFAULT_WIDTH, MAX_WIDTH, MIN_WIDTH};
 
-const LENGTH: usize = 200;
 const SOURCES: u64 = 16;
 const STEP_MS: f64 = 0.01;
 const SALT: u64 = 1;
 const TURNS: usize = 5;
 
-// A capacity; the delay, twice which is the jitter, so that a copy waits twice the delay in the mean; the number of windows that lie ahead; and how many
-// rounds are timed.
+// How wide a slot is, and how many bytes a packet has.
+#[derive(Clone, Copy)]
+struct Bytes {
+    width: usize,
+    length: u32,
+}
+
+const SMALL_BYTES: Bytes = Bytes { width: MIN_WIDTH, length: 60 };
+const USUAL_BYTES: Bytes = Bytes { width: DEFAULT_WIDTH, length: 200 };
+const LARGE_BYTES: Bytes = Bytes { width: MAX_WIDTH, length: 9_000 };
+
+// A capacity; the bytes of slots and packets; the delay, twice which is the jitter, so that a copy waits twice the delay in the mean; the number of windows
+// that lie ahead; and how many rounds are timed.
 struct Case {
     cap: usize,
+    bytes: Bytes,
     delay_ms: f64,
     windows: u64,
     rounds: u64,
 }
 
 const SMALL: usize = 1_024;
+const MIDDLE: usize = 131_072;
 const LARGE: usize = 1_048_576;
 
-const CASES: [Case; 8] = [
-    Case { cap: SMALL, delay_ms: 0.5, windows: 0, rounds: 5_000_000 },
-    Case { cap: SMALL, delay_ms: 0.5, windows: 100, rounds: 3_000_000 },
-    Case { cap: LARGE, delay_ms: 0.5, windows: 0, rounds: 5_000_000 },
-    Case { cap: LARGE, delay_ms: 0.5, windows: 100, rounds: 3_000_000 },
-    Case { cap: LARGE, delay_ms: 500.0, windows: 0, rounds: 2_000_000 },
-    Case { cap: LARGE, delay_ms: 500.0, windows: 100, rounds: 2_000_000 },
-    Case { cap: LARGE, delay_ms: 2_500.0, windows: 0, rounds: 2_000_000 },
-    Case { cap: LARGE, delay_ms: 2_500.0, windows: 100, rounds: 2_000_000 },
+const CASES: [Case; 12] = [
+    Case { cap: SMALL, bytes: USUAL_BYTES, delay_ms: 0.5, windows: 0, rounds: 5_000_000 },
+    Case { cap: SMALL, bytes: USUAL_BYTES, delay_ms: 0.5, windows: 100, rounds: 3_000_000 },
+    Case { cap: LARGE, bytes: USUAL_BYTES, delay_ms: 0.5, windows: 0, rounds: 5_000_000 },
+    Case { cap: LARGE, bytes: USUAL_BYTES, delay_ms: 0.5, windows: 100, rounds: 3_000_000 },
+    Case { cap: LARGE, bytes: USUAL_BYTES, delay_ms: 500.0, windows: 0, rounds: 2_000_000 },
+    Case { cap: LARGE, bytes: USUAL_BYTES, delay_ms: 500.0, windows: 100, rounds: 2_000_000 },
+    Case { cap: LARGE, bytes: USUAL_BYTES, delay_ms: 2_500.0, windows: 0, rounds: 2_000_000 },
+    Case { cap: LARGE, bytes: USUAL_BYTES, delay_ms: 2_500.0, windows: 100, rounds: 2_000_000 },
+    Case { cap: SMALL, bytes: SMALL_BYTES, delay_ms: 0.5, windows: 0, rounds: 5_000_000 },
+    Case { cap: LARGE, bytes: SMALL_BYTES, delay_ms: 500.0, windows: 0, rounds: 2_000_000 },
+    Case { cap: SMALL, bytes: LARGE_BYTES, delay_ms: 0.5, windows: 0, rounds: 1_000_000 },
+    Case { cap: MIDDLE, bytes: LARGE_BYTES, delay_ms: 500.0, windows: 0, rounds: 500_000 },
 ];
 
 impl Case {
@@ -101,11 +119,13 @@ extern "C" {
         sent: *mut u8,
         sent_len: usize,
         cap: usize,
+        width: usize,
+        length: u32,
         count: u64,
     ) -> u64;
 }
 
-fn port(memory: &mut Memory, text: &[u8], source: &[u8], cap: usize, count: u64) -> Ran {
+fn port(memory: &mut Memory, text: &[u8], source: &[u8], case: &Case, count: u64) -> Ran {
     let m = memory;
     let start = Instant::now();
     let sum = unsafe {
@@ -134,7 +154,9 @@ fn port(memory: &mut Memory, text: &[u8], source: &[u8], cap: usize, count: u64)
             source.len(),
             m.sent.as_mut_ptr(),
             m.sent.len(),
-            cap,
+            case.cap,
+            case.bytes.width,
+            case.bytes.length,
             count,
         )
     };
@@ -142,13 +164,14 @@ fn port(memory: &mut Memory, text: &[u8], source: &[u8], cap: usize, count: u64)
 }
 
 // The same run over the Rust source, and how many copies are held at its end.
-fn rust(text: &[u8], source: &[u8], cap: usize, count: u64) -> (Ran, usize) {
+fn rust(text: &[u8], source: &[u8], case: &Case, count: u64) -> (Ran, usize) {
+    let (width, length) = (case.bytes.width, case.bytes.length as usize);
     let start = Instant::now();
-    let mut line = Line::new(text, cap);
+    let mut line = Line::new(text, case.cap, width);
     let mut now_ms = 0.0;
     for left in (1..=count).rev() {
-        let at = (left % SOURCES) as usize * LENGTH;
-        line.arrive(now_ms, &source[at..at + LENGTH], left);
+        let at = (left % SOURCES) as usize * length;
+        line.arrive(now_ms, &source[at..at + length], left);
         line.release(now_ms);
         now_ms += STEP_MS;
     }
@@ -167,10 +190,10 @@ struct Line {
 }
 
 impl Line {
-    fn new(text: &[u8], cap: usize) -> Line {
+    fn new(text: &[u8], cap: usize, width: usize) -> Line {
         let config = parse_config(&arguments(text)).unwrap();
         let engine = ArrivalEngine::new(config.c2s, direction_seed(config.seed, SALT));
-        Line { engine, queue: ImpairQueue::new(cap), accounts: SendAccountant::default(), sent: vec![1; SLOT_WIDTH], sum: 0 }
+        Line { engine, queue: ImpairQueue::new(cap), accounts: SendAccountant::default(), sent: vec![1; width], sum: 0 }
     }
 
     // The sum rotated by five bits, so that the order counts.
@@ -223,30 +246,33 @@ fn shown(times: &[f64]) -> String {
     format!("{least:.1} to {greatest:.1}, median {:.1}", median(times))
 }
 
-fn in_turns(case: &Case, memory: &mut Memory, source: &[u8]) {
+fn in_turns(case: &Case) {
+    let Bytes { width, length } = case.bytes;
+    let memory = &mut Memory::new(case.cap, width);
+    let source = &lent::payloads(SOURCES as usize, length as usize);
     let (text, filling) = (case.text(), case.filling());
     let count = filling + case.rounds;
     let (mut ports, mut rusts, mut held) = (Vec::new(), Vec::new(), 0);
     for _ in 0..TURNS {
-        let filled = port(memory, &text, source, case.cap, filling);
-        let all = port(memory, &text, source, case.cap, count);
+        let filled = port(memory, &text, source, case, filling);
+        let all = port(memory, &text, source, case, count);
         ports.push(per_round(&filled, &all, case.rounds));
-        let (filled_by_rust, _) = rust(&text, source, case.cap, filling);
-        let (all_by_rust, held_at_end) = rust(&text, source, case.cap, count);
+        let (filled_by_rust, _) = rust(&text, source, case, filling);
+        let (all_by_rust, held_at_end) = rust(&text, source, case, count);
         rusts.push(per_round(&filled_by_rust, &all_by_rust, case.rounds));
         assert_eq!(all.sum, all_by_rust.sum, "the sums differ");
         assert_eq!(all.sent, all_by_rust.sent, "the last bytes differ");
         held = held_at_end;
     }
     let ratio = median(&ports) / median(&rusts);
-    println!("| {} | {held} | {} | {} | {} | {ratio:.2} |", case.cap, case.windows, shown(&ports), shown(&rusts));
+    let (cap, windows) = (case.cap, case.windows);
+    println!("| {cap} | {width} | {length} | {held} | {windows} | {} | {} | {ratio:.2} |", shown(&ports), shown(&rusts));
 }
 
 fn main() {
-    let source = lent::payloads(SOURCES as usize, LENGTH);
-    println!("| Capacity | Held | Windows | Port, ns for a round | Rust, ns for a round | Port to Rust, medians |");
-    println!("|---|---|---|---|---|---|");
+    println!("| Capacity | Slot width | Packet, bytes | Held | Windows | Port, ns for a round | Rust, ns for a round | Port to Rust, medians |");
+    println!("|---|---|---|---|---|---|---|---|");
     for case in &CASES {
-        in_turns(case, &mut Memory::new(case.cap), &source);
+        in_turns(case);
     }
 }

@@ -5,11 +5,13 @@ mod lent;
 mod rng;
 mod stats;
 mod timing;
+mod widths;
 
 use impair::ImpairQueue;
-use lent::{Memory, SLOT_WIDTH};
+use lent::Memory;
 use std::time::Instant;
 use timing::{median, per_round, Ran};
+use widths::DEFAULT_WIDTH;
 
 const LENGTH: usize = 200;
 const SOURCES: u64 = 16;
@@ -101,7 +103,7 @@ fn port(memory: &mut Memory, source: &[u8], cap: usize, held: usize, count: u64)
 
 fn rust(source: &[u8], cap: usize, held: usize, count: u64) -> Ran {
     let start = Instant::now();
-    let mut turns = Turns { queue: ImpairQueue::new(cap), sent: vec![1; SLOT_WIDTH], now_ms: 0.0, draw: SEED, sum: 0 };
+    let mut turns = Turns { queue: ImpairQueue::new(cap), sent: vec![1; DEFAULT_WIDTH], now_ms: 0.0, draw: SEED, sum: 0 };
     for _ in 0..count {
         turns.enter(source);
         if turns.queue.len() > held {
@@ -125,7 +127,7 @@ impl Turns {
         self.draw ^= self.draw >> 7;
         self.draw ^= self.draw << 17;
         let due_ms = self.now_ms + (self.draw >> 11) as f64 * (1.0 / 9007199254740992.0) * SPREAD_MS;
-        let at = (self.draw % SOURCES) as usize * SLOT_WIDTH;
+        let at = (self.draw % SOURCES) as usize * DEFAULT_WIDTH;
         self.queue.push(due_ms, self.now_ms, self.draw, 0, source[at..at + LENGTH].to_vec());
     }
 
@@ -163,8 +165,8 @@ fn in_turns(case: &Case, memory: &mut Memory, source: &[u8]) {
 }
 
 fn main() {
-    let source = lent::payloads(SOURCES as usize, SLOT_WIDTH);
+    let source = lent::payloads(SOURCES as usize, DEFAULT_WIDTH);
     for case in &CASES {
-        in_turns(case, &mut Memory::new(case.cap), &source);
+        in_turns(case, &mut Memory::new(case.cap, DEFAULT_WIDTH), &source);
     }
 }

@@ -3,17 +3,16 @@
 use crate::answers::{settings_of, taken};
 use crate::config::Config;
 use crate::copies::bytes;
+use crate::creations::{width_of, Room};
 use crate::device_words::said;
 use crate::impair::direction_seed;
 use crate::instants::float_of;
-use crate::limits::LONGEST;
 use crate::machine::{Answer, Machine};
 use crate::script;
 use crate::tally::Tally;
 
-// The most copies that a device can hold, and those for which the port's program has room.
-const MOST: u64 = 1_048_576;
-const ROOM: u64 = 1_024;
+// What the port's program lends.
+pub const ROOM: Room = Room { entries: 1_024, store_bytes: 2_097_152 };
 
 pub struct Answers {
     pub settings: Config,
@@ -37,8 +36,8 @@ impl Answers {
             return Some(self.options(&script::text_of(line)?));
         }
         let words: Vec<&str> = std::str::from_utf8(line).ok()?.split(' ').collect();
-        if let ["create", direction, salt, capacity] = words[..] {
-            return self.create(direction, salt.parse().ok()?, capacity.parse().ok()?);
+        if let ["create", direction, salt, capacity, behind @ ..] = words.as_slice() {
+            return self.create(direction, salt.parse().ok()?, capacity.parse().ok()?, width_of(behind)?);
         }
         let answer = self.on_machine(&words)?;
         self.tally.take(&answer);
@@ -57,30 +56,28 @@ impl Answers {
         answer
     }
 
-    fn create(&mut self, direction: &str, salt: u64, capacity: u64) -> Option<String> {
+    fn create(&mut self, direction: &str, salt: u64, capacity: u64, width: u64) -> Option<String> {
         let settings = match direction {
             "c2s" => &self.settings.c2s,
             "s2c" => &self.settings.s2c,
             _ => return None,
         };
         let seed = direction_seed(self.settings.seed, salt);
-        let (machine, answer) = match capacity {
-            1..=ROOM => (Machine::new(settings.clone(), seed, capacity as usize), "created"),
-            1..=MOST => (Machine::refused(), "refused 23"),
-            _ => (Machine::refused(), "refused 24"),
+        let (machine, answer) = match ROOM.judged(capacity, width) {
+            Ok((capacity, width)) => (Machine::new(settings.clone(), seed, capacity, width), "created".to_string()),
+            Err(number) => (Machine::refused(), format!("refused {number}")),
         };
         self.machine = machine;
         self.tally = Tally::default();
-        Some(answer.to_string())
+        Some(answer)
     }
 
     fn on_machine(&mut self, words: &[&str]) -> Option<Answer> {
         let machine = &mut self.machine;
         Some(match *words {
             ["a", now, len, route, fill] => {
-                let (now, len, route, fill) = (float_of(now)?, len.parse::<u64>().ok()?, route.parse().ok()?, fill.parse().ok()?);
-                // one byte too many is refused as any more are
-                machine.arrive(now, &bytes(len.min(LONGEST + 1) as usize, fill), route)
+                let (now, len, route, fill) = (float_of(now)?, len.parse().ok()?, route.parse().ok()?, fill.parse().ok()?);
+                machine.arrive(now, &bytes(len, fill), route)
             }
             ["r", now] => machine.release(float_of(now)?),
             ["b", now] => machine.rebind(float_of(now)?),

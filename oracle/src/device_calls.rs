@@ -5,16 +5,21 @@ use crate::engine_calls;
 use crate::instants::{beside, bits, within, LAST};
 use crate::machine::Machine;
 use crate::split_mix::SplitMix;
+use crate::widths::{DEFAULT_WIDTH, LONGEST};
 
 // Lines that ask for nothing.
-const BAD: [&str; 18] = [
+const BAD: [&str; 22] = [
     "",
     "x",
     "create",
     "create c2s 1",
     "create x 1 1",
     "create c2s x 1",
-    "create c2s 1 1 1",
+    "create c2s 1 1 ",
+    "create c2s 1 1 x",
+    "create c2s 1 1 -64",
+    "create c2s 1 1 18446744073709551616",
+    "create c2s 1 1 64 1",
     "a",
     "a 4014000000000000 5 1",
     "a 4014000000000000 x 1 1",
@@ -34,6 +39,7 @@ const AHEAD: f64 = 1000.0;
 // Instants and lengths are drawn as for the device's engine. Phases with many arrivals and phases with many releases take turns.
 pub struct Calls {
     times: engine_calls::Calls,
+    width: usize,
     arrivals: usize,
     phase: usize,
     // The instant of the last release, and how often it is to be repeated.
@@ -42,8 +48,8 @@ pub struct Calls {
 }
 
 impl Calls {
-    pub fn new(settings: &DirectionConfig) -> Self {
-        Calls { times: engine_calls::Calls::new(settings), arrivals: 50, phase: 0, release: 0.0, repeats: 0 }
+    pub fn new(settings: &DirectionConfig, width: usize) -> Self {
+        Calls { times: engine_calls::Calls::new(settings, width), width, arrivals: 50, phase: 0, release: 0.0, repeats: 0 }
     }
 
     // The line of a call on this device.
@@ -75,9 +81,13 @@ impl Calls {
         format!("a {} {} {route} {fill}", bits(self.times.drawn(r)), self.length(r))
     }
 
-    // Often about the greatest length that is taken.
+    // Often about the slot width, and at times about the default width or the greatest.
     fn length(&self, r: &mut SplitMix) -> u64 {
-        if r.percent(12) { 2046 + r.below(5) as u64 } else { self.times.length(r) }
+        match r.below(100) {
+            0..=11 => (self.width - 2 + r.below(5)) as u64,
+            12..=14 => r.pick(&[DEFAULT_WIDTH, LONGEST]) as u64 - 1 + r.below(3) as u64,
+            _ => self.times.length(r),
+        }
     }
 
     // One release, or as many at one instant as copies are due, and then often one for which none is due.

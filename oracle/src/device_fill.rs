@@ -4,7 +4,11 @@ use crate::instants::{bits, LAST};
 use crate::script::line_of;
 use crate::split_mix::SplitMix;
 
-const CAPACITIES: [usize; 9] = [255, 256, 257, 511, 512, 513, 1000, 1023, 1024];
+// Capacities, each with a slot width for which there is room.
+const SIZES: [(usize, usize); 14] = [
+    (255, 2048), (256, 64), (257, 1500), (511, 2049), (512, 65), (513, 2048), (1000, 64), (1023, 200), (1024, 2047), (1024, 2048),
+    (227, 9216), (227, 9215), (232, 9000), (1023, 2049),
+];
 
 // The copies wait longer than it takes until all have come, and some of them tie.
 fn text(r: &mut SplitMix) -> Vec<u8> {
@@ -17,23 +21,25 @@ fn text(r: &mut SplitMix) -> Vec<u8> {
 
 // Its option text, its creation and its calls.
 pub fn lines(r: &mut SplitMix) -> Vec<String> {
-    let capacity = r.pick(&CAPACITIES);
-    let mut lines = vec![line_of(&text(r)), format!("create c2s {} {capacity}", r.next())];
+    let (capacity, width) = r.pick(&SIZES);
+    let mut lines = vec![line_of(&text(r)), format!("create c2s {} {capacity} {width}", r.next())];
     let mut now = 0.0;
-    lines.extend((0..capacity).map(|_| arrival(r, &mut now)));
+    lines.extend((0..capacity).map(|_| arrival(r, &mut now, width)));
     lines.push("p".to_string());
     now = 3000.0;
     lines.extend((0..capacity).map(|_| release(r, &mut now)));
-    lines.extend((0..capacity / 3).map(|_| arrival(r, &mut now)));
+    lines.extend((0..capacity / 3).map(|_| arrival(r, &mut now, width)));
     lines.extend(vec![format!("r {}", bits(LAST)); capacity / 2]);
     lines.extend(["p", "t", "p"].map(str::to_string));
     lines
 }
 
-// Packets are short, and some come together.
-fn arrival(r: &mut SplitMix, now: &mut f64) -> String {
+// Most packets are short, some are as long as a slot, and some come together.
+fn arrival(r: &mut SplitMix, now: &mut f64, width: usize) -> String {
     *now += r.pick(&[0.0, 0.5, 1.0, 2.25]);
-    format!("a {} {} {} {}", bits(*now), r.below(64), r.below(8), r.below(1000))
+    let short = r.below(64);
+    let length = r.pick(&[width, short, short, short, short, short, short, short]);
+    format!("a {} {length} {} {}", bits(*now), r.below(8), r.below(1000))
 }
 
 fn release(r: &mut SplitMix, now: &mut f64) -> String {

@@ -20,7 +20,7 @@ pub fn kinds() -> impl Iterator<Item = (String, u64)> {
         let mut found = vec![(kind(&words), 1)];
         let mut due = String::new();
         match words[..] {
-            ["created"] | ["refused", "23" | "24"] => before = [0; COUNTERS.len()],
+            ["created"] | ["refused", "23" | "24" | "30"] => before = [0; COUNTERS.len()],
             ["released", own, ..] => {
                 due = own.to_string();
                 if due == last_due {

@@ -1,8 +1,9 @@
 // Scripts for devices: each scenario is an option text, a device and calls on it.
 
 use crate::config::DirectionConfig;
-use crate::device_answers::Answers;
+use crate::device_answers::{Answers, ROOM};
 use crate::device_calls::Calls;
+use crate::sizes::Sizes;
 use crate::split_mix::SplitMix;
 use crate::{device_fill, device_texts, script};
 use std::io::{self, Write};
@@ -47,7 +48,8 @@ impl<W: Write> Script<'_, W> {
         let direction = r.pick(&["c2s", "s2c"]);
         let any = r.next();
         let salt = r.pick(&[0, 1, 2, u64::MAX, any, any, any, any]);
-        self.line(&format!("create {direction} {salt} {}", capacity(r)))?;
+        let sizes = Sizes::drawn(r, &ROOM, capacity);
+        self.line(&format!("create {direction} {salt} {}", sizes.words()))?;
         let settings = &self.answers.settings;
         let own = if direction == "c2s" { settings.c2s.clone() } else { settings.s2c.clone() };
         self.calls(r, &own, count)?;
@@ -65,7 +67,7 @@ impl<W: Write> Script<'_, W> {
 
     // So many calls; the last one asks for the report.
     fn calls(&mut self, r: &mut SplitMix, settings: &DirectionConfig, count: usize) -> io::Result<()> {
-        let mut calls = Calls::new(settings);
+        let mut calls = Calls::new(settings, self.answers.machine.width());
         for _ in 1..count {
             let line = calls.line(r, &self.answers.machine);
             self.line(&line)?;
@@ -80,11 +82,10 @@ fn length(r: &mut SplitMix) -> usize {
     20 + r.below(span)
 }
 
-// Most are small, so that the device overflows; some are refused.
+// Most are small, so that the device overflows.
 fn capacity(r: &mut SplitMix) -> u64 {
     match r.below(20) {
-        0 => r.pick(&[0, 0, 1025, 1 << 20, (1 << 20) + 1, u64::MAX]),
-        1..=11 => 1 + r.below(8) as u64,
+        0..=11 => 1 + r.below(8) as u64,
         12..=13 => r.pick(&[15, 16, 17, 31, 32, 33, 63, 64, 65]),
         14..=17 => 1 + r.below(1024) as u64,
         _ => 1024,

@@ -1,29 +1,32 @@
 // Calls on a device, and the answers that the port must give to them.
 //   devices make SEED COUNT   prints a script of COUNT calls that are drawn from SEED, on many devices one after the other
+//   devices widths            prints a fixed script on the slot width
 //   devices answer            reads a script and prints its answers
 //   devices count             reads answers and says on stderr how many there are of each kind
 mod answers;
 mod config;
 mod copies;
+mod creations;
 mod device_answers;
 mod device_calls;
 mod device_fill;
 mod device_kinds;
 mod device_scripts;
 mod device_texts;
+mod device_widths;
 mod device_words;
 mod differences;
 mod engine_calls;
 mod engine_texts;
 mod impair;
 mod instants;
-mod limits;
 mod long_texts;
 mod machine;
 mod print;
 mod refusals;
 mod rng;
 mod script;
+mod sizes;
 mod split_mix;
 mod stats;
 mod streams;
@@ -31,6 +34,7 @@ mod tally;
 mod texts;
 mod values;
 mod well_formed;
+mod widths;
 
 use device_answers::Answers;
 use std::io::{self, BufWriter, Write};
@@ -41,6 +45,11 @@ fn main() -> io::Result<()> {
     let mut out = BufWriter::new(io::stdout().lock());
     match words[..] {
         ["make", seed, count] => device_scripts::make(seed.parse().expect("a seed"), count.parse().expect("a count"), &mut out)?,
+        ["widths"] => {
+            for line in device_widths::lines() {
+                writeln!(out, "{line}")?;
+            }
+        }
         ["answer"] => {
             let mut answers = Answers::new();
             for line in streams::lines() {
@@ -48,7 +57,7 @@ fn main() -> io::Result<()> {
             }
         }
         ["count"] => streams::count(device_kinds::kinds()),
-        _ => panic!("devices make SEED COUNT, answer or count"),
+        _ => panic!("devices make SEED COUNT, widths, answer or count"),
     }
     out.flush()
 }

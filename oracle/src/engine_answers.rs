@@ -1,12 +1,12 @@
-// The answers that the port must give to a script of calls on an engine: what the Rust gives, with document 01's refusals.
+// The answers that the port must give to a script of calls on an engine: what the Rust gives, with the papers' refusals of an instant and a length.
 
 use crate::answers::settings_of;
 use crate::config::{Config, DirectionConfig};
 use crate::impair::{ArrivalEngine, Decision};
-use crate::instants::float_of;
-use crate::limits::{is_instant, LONGEST};
+use crate::instants::{float_of, is_instant};
 use crate::print::{count, float};
 use crate::script;
+use crate::widths::LONGEST;
 
 pub struct Answers {
     settings: Config,
@@ -66,7 +66,7 @@ impl Answers {
         if !is_instant(now) {
             return "refused 21".to_string();
         }
-        if len > LONGEST {
+        if len > LONGEST as u64 {
             return "refused 22".to_string();
         }
         match self.engine.decide(now, len as usize) {

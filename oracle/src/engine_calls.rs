@@ -3,6 +3,7 @@
 use crate::config::DirectionConfig;
 use crate::instants::{beside, bits, within, LAST};
 use crate::split_mix::SplitMix;
+use crate::widths::DEFAULT_WIDTH;
 
 // Lines that ask for nothing.
 const BAD: [&str; 12] = [
@@ -10,23 +11,25 @@ const BAD: [&str; 12] = [
     "s 1", "engine c2s x",
 ];
 
-// Where instants and lengths are drawn for one engine: the edges of its windows, its NAT period and its mtu.
+// Where instants and lengths are drawn for one engine: the edges of its windows, its NAT period, its mtu and the longest packet that is taken.
 pub struct Calls {
     edges: Vec<u64>,
     period: u64,
     next_rebind: f64,
     mtu: Option<u64>,
+    longest: usize,
     now: f64,
 }
 
 impl Calls {
-    pub fn new(settings: &DirectionConfig) -> Self {
+    pub fn new(settings: &DirectionConfig, longest: usize) -> Self {
         let windows = settings.blackouts.iter().chain(settings.tcp_kills.iter().map(|kill| &kill.window));
         Calls {
             edges: windows.flat_map(|window| [window.start_ms, window.end_ms]).collect(),
             period: settings.nat_change_every_ms,
             next_rebind: settings.nat_change_every_ms as f64,
             mtu: settings.mtu.map(|mtu| mtu as u64),
+            longest,
             now: 0.0,
         }
     }
@@ -119,17 +122,20 @@ impl Calls {
         r.pick(&self.edges) as f64
     }
 
-    // From 0 to 2,048, often the mtu or one more; some in a hundred are longer.
+    // From 0 to the longest that is taken, often the mtu or one more; some in a hundred are longer.
     pub fn length(&self, r: &mut SplitMix) -> u64 {
+        let longest = self.longest as u64;
+        let any = r.below(self.longest + 1) as u64;
         let near = match self.mtu {
-            Some(mtu) if mtu <= 2048 => mtu - 1 + r.below(3) as u64,
-            _ => r.below(2049) as u64,
+            Some(mtu) if mtu <= longest => mtu - 1 + r.below(3) as u64,
+            _ => any,
         };
         match r.below(100) {
-            0 => r.pick(&[2049, 65_536, u64::MAX]),
-            1..=25 => r.pick(&[0, 1, 40, 1500, 2047, 2048]),
-            26..=45 => near.min(2048),
-            _ => r.below(2049) as u64,
+            0 => r.pick(&[longest + 1, longest + 1, 16_384, 16_385, 65_536, u64::MAX]),
+            1..=25 => r.pick(&[0, 1, 40, 1500, 2047, 2048, 2049, longest - 1, longest]).min(longest),
+            26..=45 => near.min(longest),
+            46..=60 => any,
+            _ => any.min(r.below(DEFAULT_WIDTH + 1) as u64),
         }
     }
 }

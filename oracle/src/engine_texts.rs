@@ -43,8 +43,8 @@ fn burst_bytes(r: &mut SplitMix) -> String {
 }
 
 fn mtu(r: &mut SplitMix) -> String {
-    let any = 1 + r.below(2100);
-    r.pick(&[1, 576, 1500, 2047, 2048, 1 << 53, any, any]).to_string()
+    let (any, far) = (1 + r.below(2100), 1 + r.below(9300));
+    r.pick(&[1, 576, 1500, 2047, 2048, 2049, 9215, 9216, 1 << 53, any, any, any, any, far]).to_string()
 }
 
 fn period(r: &mut SplitMix) -> String {

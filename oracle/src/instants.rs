@@ -5,6 +5,11 @@ use crate::split_mix::SplitMix;
 // The last instant that refusal 21 lets through.
 pub const LAST: f64 = (1u64 << 53) as f64;
 
+// Whether refusal 21 lets an instant through: it is no NaN, has no sign bit set and is at most 2^53.
+pub fn is_instant(now: f64) -> bool {
+    now.is_sign_positive() && now <= LAST
+}
+
 pub fn bits(x: f64) -> String {
     format!("{:016x}", x.to_bits())
 }

@@ -1,6 +1,4 @@
-// What a host lends the port for a capacity, and the buffer to which it hands on the bytes of what left.
-
-pub const SLOT_WIDTH: usize = 2048;
+// What a host lends the port for a capacity and a slot width, and the buffer to which it hands on the bytes of what left.
 
 // All is written to once, here, so that every page is there before a run; no run clears it.
 pub struct Memory {
@@ -17,7 +15,7 @@ pub struct Memory {
 }
 
 impl Memory {
-    pub fn new(cap: usize) -> Memory {
+    pub fn new(cap: usize, width: usize) -> Memory {
         Memory {
             win: vec![1; cap],
             free: vec![1; cap],
@@ -27,13 +25,13 @@ impl Memory {
             routes: vec![1; cap],
             copy_ids: vec![1; cap],
             lengths: vec![1; cap],
-            store: vec![1; cap * SLOT_WIDTH],
-            sent: vec![1; SLOT_WIDTH],
+            store: vec![1; cap * width],
+            sent: vec![1; width],
         }
     }
 }
 
-// So many bytes for each of the payloads that enter in turns; no two payloads are the same.
-pub fn payloads(count: usize, width: usize) -> Vec<u8> {
-    (0..count * width).map(|i| (i / width + i) as u8).collect()
+// So many bytes for each of the payloads that enter in turns, end to end; no two payloads are the same.
+pub fn payloads(count: usize, length: usize) -> Vec<u8> {
+    (0..count * length).map(|i| (i / length + i) as u8).collect()
 }

@@ -2,8 +2,9 @@
 
 use crate::config::DirectionConfig;
 use crate::impair::{ArrivalEngine, Decision, Queued, SendAccountant};
-use crate::limits::{is_instant, LONGEST};
+use crate::instants::is_instant;
 use crate::stats::DirectionStats;
+use crate::widths::DEFAULT_WIDTH;
 
 pub enum Answer {
     Refused(u32),
@@ -25,24 +26,30 @@ pub struct Machine {
     accounts: SendAccountant,
     torn: u64,
     capacity: usize,
+    width: usize,
 }
 
 impl Machine {
-    pub fn new(settings: DirectionConfig, seed: u64, capacity: usize) -> Self {
+    pub fn new(settings: DirectionConfig, seed: u64, capacity: usize, width: usize) -> Self {
         let (engine, accounts) = (ArrivalEngine::new(settings, seed), SendAccountant::default());
-        Machine { engine, held: Vec::new(), next_seq: 0, accounts, torn: 0, capacity }
+        Machine { engine, held: Vec::new(), next_seq: 0, accounts, torn: 0, capacity, width }
     }
 
     // The machine that a refused creation gives.
     pub fn refused() -> Self {
-        Machine::new(DirectionConfig::default(), 0, 1)
+        Machine::new(DirectionConfig::default(), 0, 1, DEFAULT_WIDTH)
+    }
+
+    // The length of the longest packet that is taken.
+    pub fn width(&self) -> usize {
+        self.width
     }
 
     pub fn arrive(&mut self, now: f64, bytes: &[u8], route: u64) -> Answer {
         if !is_instant(now) {
             return Answer::Refused(21);
         }
-        if bytes.len() as u64 > LONGEST {
+        if bytes.len() > self.width {
             return Answer::Refused(22);
         }
         match self.engine.decide(now, bytes.len()) {

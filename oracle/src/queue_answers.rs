@@ -1,26 +1,29 @@
-// The answers that the port must give to a script of calls on a queue: what the Rust gives, with document 01's refusals of a capacity.
+// The answers that the port must give to a script of calls on a queue: what the Rust gives, with the papers' refusals of a capacity, a width, a memory and a
+// length.
 // The port releases one copy a call and `pop_due` all that are due. So releases at one instant are answered from one call of `pop_due`, and the script must
 // repeat them, with no other call between, until none is due.
 
 use crate::copies::{bytes, released};
+use crate::creations::{width_of, Room};
 use crate::impair::{ImpairQueue, Queued};
 use crate::instants::float_of;
 use crate::print::float;
+use crate::widths::DEFAULT_WIDTH;
 use std::collections::VecDeque;
 
-// The most copies that a queue can hold, and those for which the port's program has room.
-const MOST: u64 = 1_048_576;
-const ROOM: u64 = 256;
+// What the port's program lends.
+pub const ROOM: Room = Room { entries: 256, store_bytes: 524_288 };
 
 pub struct Answers {
     queue: ImpairQueue,
+    width: usize,
     // The instant of releases of which none has answered that none is due, and the copies that are still to be told.
     releases: Option<(u64, VecDeque<Queued>)>,
 }
 
 impl Answers {
     pub fn new() -> Self {
-        Answers { queue: ImpairQueue::new(1), releases: None }
+        Answers { queue: ImpairQueue::new(1), width: DEFAULT_WIDTH, releases: None }
     }
 
     pub fn answer(&mut self, line: &[u8]) -> String {
@@ -31,15 +34,15 @@ impl Answers {
     fn called(&mut self, line: &[u8]) -> Option<String> {
         let words: Vec<&str> = std::str::from_utf8(line).ok()?.split(' ').collect();
         match words[..] {
-            ["queue", cap] => {
-                let cap = cap.parse().ok()?;
-                Some(self.create(cap))
+            ["queue", cap, ref behind @ ..] => {
+                let (cap, width) = (cap.parse().ok()?, width_of(behind)?);
+                Some(self.create(cap, width))
             }
             ["push", due, arrival, route, id, len, fill] => {
-                let (due, arrival) = (float_of(due)?, float_of(arrival)?);
-                let bytes = bytes(len.parse().ok()?, fill.parse().ok()?);
-                let (route, id) = (route.parse().ok()?, id.parse().ok()?);
-                Some(self.whole().push(due, arrival, route, id, bytes).map_or("refused 28".to_string(), |seq| format!("entered {seq}")))
+                let (due_ms, arrival_ms) = (float_of(due)?, float_of(arrival)?);
+                let (route, copy_id) = (route.parse().ok()?, id.parse().ok()?);
+                let data = bytes(len.parse().ok()?, fill.parse().ok()?);
+                Some(self.push(due_ms, arrival_ms, route, copy_id, data))
             }
             ["release", now] => {
                 let now = float_of(now)?;
@@ -61,16 +64,27 @@ impl Answers {
         &mut self.queue
     }
 
-    // A refused capacity gives a queue of capacity 1.
-    fn create(&mut self, cap: u64) -> String {
+    // A refused creation gives a queue of capacity 1 and of the default width.
+    fn create(&mut self, cap: u64, width: u64) -> String {
         self.whole();
-        let (cap, answer) = match cap {
-            1..=ROOM => (cap as usize, "created"),
-            1..=MOST => (1, "refused 23"),
-            _ => (1, "refused 24"),
-        };
+        let judged = ROOM.judged(cap, width);
+        let (cap, width) = judged.unwrap_or((1, DEFAULT_WIDTH));
         self.queue = ImpairQueue::new(cap);
-        answer.to_string()
+        self.width = width;
+        judged.map_or_else(|number| format!("refused {number}"), |_| "created".to_string())
+    }
+
+    // A packet that is longer than a slot is refused before it is known whether the queue is full.
+    fn push(&mut self, due_ms: f64, arrival_ms: f64, route: u64, copy_id: u32, data: Vec<u8>) -> String {
+        let width = self.width;
+        let queue = self.whole();
+        if data.len() > width {
+            return "refused 22".to_string();
+        }
+        match queue.push(due_ms, arrival_ms, route, copy_id, data) {
+            Some(seq) => format!("entered {seq}"),
+            None => "refused 28".to_string(),
+        }
     }
 
     fn release(&mut self, now: f64) -> String {

@@ -2,18 +2,24 @@
 
 use crate::impair::ImpairQueue;
 use crate::instants::{beside, bits, within, LAST};
+use crate::queue_answers::ROOM;
+use crate::sizes::Sizes;
 use crate::split_mix::SplitMix;
+use crate::widths::{DEFAULT_WIDTH, LONGEST};
 
 // How many dues are kept, so that later ones tie with them.
 const RECENT: usize = 8;
 
 // Lines that ask for nothing.
-const BAD: [&str; 14] = [
+const BAD: [&str; 17] = [
     "",
     "x",
     "queue",
     "queue x",
-    "queue 1 1",
+    "queue 1 ",
+    "queue 1 x",
+    "queue 1 18446744073709551616",
+    "queue 1 64 1",
     "push",
     "push 4014000000000000 0000000000000000 1 0 5",
     "push 4014000000000000 0000000000000000 1 4294967296 5 1",
@@ -29,6 +35,7 @@ const BAD: [&str; 14] = [
 pub struct Calls {
     queue: ImpairQueue,
     cap: usize,
+    width: usize,
     now: f64,
     recent: Vec<f64>,
     pushes: usize,
@@ -36,21 +43,20 @@ pub struct Calls {
 }
 
 impl Calls {
-    // On the queue of capacity 1 that there is before one is made.
+    // On the queue of capacity 1 and of the default width that there is before one is made.
     pub fn before() -> Self {
-        Calls { queue: ImpairQueue::new(1), cap: 1, now: 0.0, recent: vec![0.0], pushes: 50, phase: 0 }
+        Calls::on(1, DEFAULT_WIDTH)
     }
 
-    // The line that makes a queue, and the calls on it. A refused capacity gives a queue of capacity 1.
+    fn on(cap: usize, width: usize) -> Self {
+        Calls { queue: ImpairQueue::new(cap), cap, width, now: 0.0, recent: vec![0.0], pushes: 50, phase: 0 }
+    }
+
+    // The line that makes a queue, and the calls on it. A refused creation gives the queue that there is before one is made.
     pub fn drawn(r: &mut SplitMix) -> (String, Self) {
-        let mut calls = Calls::before();
-        if r.percent(8) {
-            let refused = r.pick(&[0, 257, 1 << 20, (1 << 20) + 1, 1 << 32, (1 << 32) + 1, u64::MAX]);
-            return (format!("queue {refused}"), calls);
-        }
-        calls.cap = capacity(r);
-        calls.queue = ImpairQueue::new(calls.cap);
-        (format!("queue {}", calls.cap), calls)
+        let sizes = Sizes::drawn(r, &ROOM, capacity);
+        let calls = sizes.judged(&ROOM).map_or_else(|_| Calls::before(), |(cap, width)| Calls::on(cap, width));
+        (format!("queue {}", sizes.words()), calls)
     }
 
     // How many calls the queue gets.
@@ -90,8 +96,22 @@ impl Calls {
         let (route, fill) = (r.next(), r.next());
         let route = r.pick(&[0, 1, u64::MAX, route, route, route]);
         let id = r.pick(&[0, 0, 1, 1, u32::MAX]);
-        self.queue.push(due, arrival, route, id, Vec::new());
-        format!("push {} {} {route} {id} {} {fill}", bits(due), bits(arrival), length(r))
+        let length = self.length(r);
+        if length <= self.width as u64 {
+            self.queue.push(due, arrival, route, id, Vec::new());
+        }
+        format!("push {} {} {route} {id} {length} {fill}", bits(due), bits(arrival))
+    }
+
+    // Most are short, since the bytes are made one by one; some are about the width, and some too long.
+    fn length(&self, r: &mut SplitMix) -> u64 {
+        let (usual, longest) = (DEFAULT_WIDTH as u64, LONGEST as u64);
+        match r.below(20) {
+            0..=3 => (self.width - 1 + r.below(3)) as u64,
+            4 => r.pick(&[0, 1, usual, usual + 1, longest - 1, longest, longest + 1, 16_384, 16_385, 65_536, u64::MAX]),
+            5 => r.below(self.width + 1) as u64,
+            _ => r.below(100.min(self.width + 1)) as u64,
+        }
     }
 
     // As many lines as copies leave, and one for which none is due.
@@ -133,23 +153,15 @@ impl Calls {
 }
 
 // From 1 to 256: most are small, or near a power of two, where the tree has another shape.
-fn capacity(r: &mut SplitMix) -> usize {
-    match r.below(20) {
+fn capacity(r: &mut SplitMix) -> u64 {
+    let drawn = match r.below(20) {
         0..=6 => 1 + r.below(4),
         7..=11 => r.pick(&[15, 16, 17, 31, 32, 33]),
         12..=16 => 5 + r.below(60),
         17 => r.pick(&[63, 64, 65, 127, 128, 129, 255, 256]),
         _ => 65 + r.below(192),
-    }
-}
-
-// From 0 to 2,048; most are short, since the bytes are made one by one.
-fn length(r: &mut SplitMix) -> usize {
-    match r.below(20) {
-        0..=2 => r.pick(&[0, 1, 2047, 2048]),
-        3 => r.below(2049),
-        _ => r.below(100),
-    }
+    };
+    drawn as u64
 }
 
 fn step(r: &mut SplitMix) -> f64 {

@@ -4,15 +4,18 @@
 //   queues count             reads answers and says on stderr how many there are of each kind
 mod config;
 mod copies;
+mod creations;
 mod impair;
 mod instants;
 mod print;
 mod queue_answers;
 mod queue_calls;
 mod rng;
+mod sizes;
 mod split_mix;
 mod stats;
 mod streams;
+mod widths;
 
 use queue_answers::Answers;
 use queue_calls::Calls;

@@ -2,7 +2,6 @@
 ghost use Rattle.std.specs.Prelude.{◌≡◌};
 ghost use Rattle.tournament.specs.Trees.{SameTables};
 ghost use Rattle.queue.specs.Lent.{entry_tables, SameRows};
-ghost use Rattle.queue.specs.Refusals.{slot_width};
 ghost use Rattle.queue.specs.Tables.{after};
 ghost use Rattle.admission.specs.Follow.{follow_of};
 
@@ -25,7 +24,7 @@ pub fn follow(
     route: u64,
     bytes: &[u8],
 ) -> (ImpairQueue, Result<Admitted, Refusal>)
-    ensures followed { after result (entry_tables tree.new free.now rows.new) ≡ follow_of slot_width queue (entry_tables tree.old free.now rows.old) decision now_ms route bytes.now }
+    ensures followed { after result (entry_tables tree.new free.now rows.new) ≡ follow_of queue (entry_tables tree.old free.now rows.old) decision now_ms route bytes.now }
     ensures same { SameTables tree.old tree.new × SameRows rows.old rows.new }
 {
     match decision {

@@ -10,8 +10,8 @@ use queue::{Rows, RowsMut, Tree, TreeMut};
 // The salt of the direction.
 const SALT: u64 = 1;
 
-// A device of the option text's c2s settings, `count` arrivals, and after each one the releases of all that is due. Returned is a sum of what entered, what
-// left and what is reported at the end.
+// A device of the option text's c2s settings, with `cap` slots of `width` bytes, `count` arrivals of `length` bytes, and after each one the releases of all
+// that is due. Returned is a sum of what entered, what left and what is reported at the end.
 // The C interface: the driver in Rust passes each table as a pointer and a length, so each is a parameter.
 #[unsafe(no_mangle)]
 pub extern "C" fn bench_device(
@@ -28,6 +28,8 @@ pub extern "C" fn bench_device(
     source: &[u8],
     sent: &mut [u8],
     cap: usize,
+    width: usize,
+    length: u32,
     count: u64,
 ) -> u64 {
     let mut tree = TreeMut { win, dues, seqs };
@@ -38,13 +40,30 @@ pub extern "C" fn bench_device(
         lengths,
         store,
     };
-    let mut device = created(text, cap, tree.shared(), free, rows.shared());
-    let sum = rounds::run(&mut device, &mut tree, free, &mut rows, source, sent, count);
+    let mut device = created(text, cap, width, tree.shared(), free, rows.shared());
+    let sum = rounds::run(
+        &mut device,
+        &mut tree,
+        free,
+        &mut rows,
+        source,
+        sent,
+        length,
+        count,
+    );
     sums::with_report(sum, device.report())
 }
 
-fn created(text: &[u8], cap: usize, tree: Tree<'_>, free: &[u32], rows: Rows<'_>) -> Device {
+fn created(
+    text: &[u8],
+    cap: usize,
+    width: usize,
+    tree: Tree<'_>,
+    free: &[u32],
+    rows: Rows<'_>,
+) -> Device {
     let (config, _) = options::parse_config(text);
-    let (device, _) = Device::create(config.c2s, config.seed, SALT, cap, tree, free, rows);
+    let seed = config.seed;
+    let (device, _) = Device::create(config.c2s, seed, SALT, cap, width, tree, free, rows);
     device
 }

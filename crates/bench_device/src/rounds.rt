@@ -10,13 +10,8 @@ const STEP_MS: f64 = 0.01;
 // So many packets of the source arrive in turns.
 const SOURCES: u64 = 16;
 
-// The bytes from one packet of the source to the next.
-const WIDTH: u32 = 200;
-
-// The bytes of a packet.
-const LENGTH: usize = 200;
-
-// A packet arrives `count` times, and each time all that is due leaves. Returned is the sum of what entered and what left.
+// A packet of `length` bytes arrives `count` times, and each time all that is due leaves; the packets of the source lie one behind the other. Returned is the
+// sum of what entered and what left.
 // The lent parts are parameters one by one: as one struct, a round took 140 instructions more (11 in 100), and the ratio to the Rust is not to rise.
 pub(crate) fn run(
     device: &mut Device,
@@ -25,12 +20,13 @@ pub(crate) fn run(
     rows: &mut RowsMut<'_>,
     source: &[u8],
     sent: &mut [u8],
+    length: u32,
     count: u64,
 ) -> u64 {
     let mut now_ms = 0.0;
     let mut sum: u64 = 0;
     for left in (1..=count).rev() {
-        let bytes = tables::part(source, WIDTH, (left % SOURCES) as u32, LENGTH);
+        let bytes = tables::part(source, length, (left % SOURCES) as u32, length as usize);
         let arrived = device.arrive_in_place(tree, free, rows, now_ms, bytes, left);
         sum = sums::with_arrival(sum, arrived);
         sum = release(device, tree, free, rows.shared(), sent, now_ms, sum);
@@ -51,7 +47,7 @@ fn release(
 ) -> u64 {
     for _ in 0..device.queue.held {
         let released = device.release_in_place(tree, free, rows, now_ms);
-        sum = sums::with_release(sum, rows.store, released, sent);
+        sum = sums::with_release(sum, rows.store, device.queue.width, released, sent);
         if !sums::has_left(released) {
             break;
         }

@@ -13,19 +13,20 @@ pub(crate) fn with_arrival(sum: u64, answer: Result<Arrived, Refusal>) -> u64 {
 }
 
 // The bytes of a copy that left go to `sent`. Returned is what the copy adds to the sum, with its due.
-fn send(store: &[u8], copy: Queued, sent: &mut [u8]) -> u64 {
-    bench_sums::send(store, copy, sent).wrapping_add(bits(copy.due_ms))
+fn send(store: &[u8], width: u32, copy: Queued, sent: &mut [u8]) -> u64 {
+    bench_sums::send(store, width, copy, sent).wrapping_add(bits(copy.due_ms))
 }
 
 // The sum with what left, and with the number of a refusal.
 pub(crate) fn with_release(
     sum: u64,
     store: &[u8],
+    width: u32,
     answer: Result<Option<Queued>, Refusal>,
     sent: &mut [u8],
 ) -> u64 {
     match answer {
-        Ok(Some(copy)) => add(sum, send(store, copy, sent)),
+        Ok(Some(copy)) => add(sum, send(store, width, copy, sent)),
         Ok(None) => sum,
         Err(refusal) => add(sum, number(refusal)),
     }

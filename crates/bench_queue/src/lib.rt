@@ -6,7 +6,7 @@ mod turns;
 
 use lent::Lent;
 use queue::{ImpairQueue, RowsMut, TreeMut};
-use turns::Turns;
+use turns::{Turns, WIDTH};
 
 // A copy enters `count` times, and whenever more than `held` are held then, one leaves. Returned is a sum of what left.
 // The C interface: the driver in Rust passes each table as a pointer and a length, so each is a parameter.
@@ -36,7 +36,7 @@ pub extern "C" fn bench_queue(
         lengths,
         store,
     };
-    let (queue, _) = ImpairQueue::create(cap, tree.shared(), free, rows.shared());
+    let (queue, _) = ImpairQueue::create(cap, WIDTH as usize, tree.shared(), free, rows.shared());
     let mut lent = Lent {
         tree,
         free,

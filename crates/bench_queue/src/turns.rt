@@ -3,10 +3,13 @@ use crate::lent::Lent;
 use numbers::Refusal;
 use queue::{ImpairQueue, Packet, Queued};
 
+// The bytes of a slot, and from one copy of the source to the next.
+pub(crate) const WIDTH: u32 = 2048;
+
 // The bytes of a copy.
 const LENGTH: usize = 200;
 
-// The source has so many slots of bytes that enter.
+// The source has the bytes of so many copies that enter.
 const SOURCES: u64 = 16;
 
 // A due is up to this many milliseconds ahead.
@@ -43,7 +46,7 @@ fn send(store: &[u8], copy: Queued, sent: &mut [u8]) -> u64 {
     } else {
         0
     };
-    bench_sums::send(store, copy, sent).wrapping_add(waited)
+    bench_sums::send(store, WIDTH, copy, sent).wrapping_add(waited)
 }
 
 // The same for an answer, and 0 where none left.
@@ -81,7 +84,7 @@ impl Turns {
             copy_id: 0,
             duplicated: false,
         };
-        let bytes = queue::payload(lent.source, (self.draw % SOURCES) as u32, LENGTH);
+        let bytes = queue::payload(lent.source, WIDTH, (self.draw % SOURCES) as u32, LENGTH);
         let free = &mut *lent.free;
         let (queue, _) = self
             .queue

@@ -2,9 +2,6 @@
 use numbers::Refusal;
 use queue::Queued;
 
-// The bytes of a slot, and so of the buffer to which the bytes of what left go: the benchmarks' own figure, written apart from that of `queue` on purpose.
-const SLOT_WIDTH: u32 = 2048;
-
 // The sum rotated by five bits, so that the order counts.
 pub fn add(sum: u64, weight: u64) -> u64 {
     sum.rotate_left(5) ^ weight
@@ -25,10 +22,11 @@ fn first(bytes: &[u8]) -> u64 {
     bytes.first().map_or(256, |byte| u64::from(*byte))
 }
 
-// The bytes of a copy that left go to `sent`, as a host hands them on. Returned is the sum of its first byte, seq, route and copy id.
-pub fn send(store: &[u8], copy: Queued, sent: &mut [u8]) -> u64 {
-    let bytes = queue::payload(store, copy.slot, copy.length);
-    tables::fill(sent, SLOT_WIDTH, 0, bytes);
+// The bytes of a copy that left go to `sent`, as a host hands them on; a slot and `sent` have `width` bytes. Returned is the sum of its first byte, seq, route
+// and copy id.
+pub fn send(store: &[u8], width: u32, copy: Queued, sent: &mut [u8]) -> u64 {
+    let bytes = queue::payload(store, width, copy.slot, copy.length);
+    tables::fill(sent, width, 0, bytes);
     copy.seq
         .wrapping_add(copy.route)
         .wrapping_add(first(sent))

@@ -55,13 +55,13 @@ pub data Parses (text : List ℕ) : Config × Result (Unit {0}) Refusal → Type
       → parse.Learnt κs a r s
       → Parses text r
 
--- a call of `create` over the tables t returned r
-pub data Creates (cfg : DirectionConfig) (seed salt cap : ℕ) (t : Tables) : Handed (Unit {0}) → Type 1 where
+-- a call of `create` with a capacity and a slot width, over the tables t, returned r
+pub data Creates (cfg : DirectionConfig) (seed salt cap width : ℕ) (t : Tables) : Handed (Unit {0}) → Type 1 where
   called : (κs : Lifetimes.Lfts 3) (a : World.ArgsD create_fn.signature κs) (r : World.ResD create_fn.signature κs) (s : Clauses.AtExit (Kinds'.ended_of 3 create_kinds.ps create_kinds.r) κs)
-      → a.0 ≡ cfg → a.1.0 ≡ seed → a.1.1.0 ≡ salt → a.1.1.1.0 ≡ cap
-      → seen_tables a.1.1.1.1.0 a.1.1.1.1.1.0.now a.1.1.1.1.1.1.0 ≡ t
+      → a.0 ≡ cfg → a.1.0 ≡ seed → a.1.1.0 ≡ salt → a.1.1.1.0 ≡ cap → a.1.1.1.1.0 ≡ width
+      → seen_tables a.1.1.1.1.1.0 a.1.1.1.1.1.1.0.now a.1.1.1.1.1.1.1.0 ≡ t
       → create.Learnt κs a r s
-      → Creates cfg seed salt cap t r
+      → Creates cfg seed salt cap width t r
 
 -- a call of `arrive` on the device v and the tables t returned r and left tables; the free slots are only read, and the instant is a number of binary64, as every
 -- f64 is
@@ -102,19 +102,19 @@ pub data Reports (v : Device) : Result Report Refusal → Type 1 where
       → report.Learnt κs a r s
       → Reports v r
 
--- a call of `payload` on a store, with a slot and a length, returned bytes
-pub data Reads (store : List ℕ) (slot len : ℕ) : List ℕ → Type 1 where
+-- a call of `payload` on a store of slots of that width, with a slot and a length, returned bytes
+pub data Reads (store : List ℕ) (width slot len : ℕ) : List ℕ → Type 1 where
   called : (κs : Lifetimes.Lfts 1) (a : World.ArgsD payload_fn.signature κs) (r : World.ResD payload_fn.signature κs) (s : Clauses.AtExit (Kinds'.ended_of 1 payload_kinds.ps payload_kinds.r) κs)
-      → a.0.now ≡ store → a.1.0 ≡ slot → a.1.1.0 ≡ len
+      → a.0.now ≡ store → a.1.0 ≡ width → a.1.1.0 ≡ slot → a.1.1.1.0 ≡ len
       → payload.Learnt κs a r s
-      → Reads store slot len r.now
+      → Reads store width slot len r.now
 
--- what an answer of `release` says, with the bytes that `payload` reads in the store that is left
-pub data Says (store : List ℕ) : Result (Option Queued) Refusal → Answer → Type 1 where
-  hands_out : {c : Queued} {bytes : List ℕ} → Reads store c.slot c.length bytes
-      → Says store (Ok (Some c)) (released (copy c.due_ms c.seq c.arrival_ms c.route c.copy_id c.length bytes))
-  none : Says store (Ok None) none_due
-  refuses : {e : Refusal} → Says store (Err e) (refused (number_of e))
+-- what an answer of `release` says, with the bytes that `payload` reads in the store that is left, by the width of the device that is handed back
+pub data Says (width : ℕ) (store : List ℕ) : Result (Option Queued) Refusal → Answer → Type 1 where
+  hands_out : {c : Queued} {bytes : List ℕ} → Reads store width c.slot c.length bytes
+      → Says width store (Ok (Some c)) (released (copy c.due_ms c.seq c.arrival_ms c.route c.copy_id c.length bytes))
+  none : Says width store (Ok None) none_due
+  refuses : {e : Refusal} → Says width store (Err e) (refused (number_of e))
 
 -- ---- a call of any kind, and a run
 
@@ -122,7 +122,7 @@ pub data Says (store : List ℕ) : Result (Option Queued) Refusal → Answer →
 pub data Answered (v : Device) (t : Tables) : Call → Answer → Device → Tables → Type 1 where
   arrives : {t' : Tables} {instant : Float} {bytes : List ℕ} {route : ℕ} {r : Handed Arrived} → Arrives v t instant bytes route r t'
       → Answered v t (arrive_call instant bytes route) (said_of_arrive r.1) r.0 t'
-  releases : {t' : Tables} {instant : Float} {r : Handed (Option Queued)} {reply : Answer} → Releases v t instant r t' → Says t'.store r.1 reply
+  releases : {t' : Tables} {instant : Float} {r : Handed (Option Queued)} {reply : Answer} → Releases v t instant r t' → Says r.0.queue.width t'.store r.1 reply
       → Answered v t (release_call instant) reply r.0 t'
   rebinds : {instant : Float} {r : Handed Bool} → Rebinds v instant r → Answered v t (rebind_call instant) (said_of_rebind r.1) r.0 t
   tears_down : {r : Handed ℕ} → TearsDown v r → Answered v t teardown_call (said_of_teardown r.1) r.0 t
@@ -134,6 +134,11 @@ pub data Ran : Device → Tables → List Call → List Answer → Type 1 where
   done : {v : Device} {t : Tables} → Ran v t [] []
   next : {v v' : Device} {t t' : Tables} {c : Call} {a : Answer} {cs : List Call} {rs : List Answer}
       → Answered v t c a v' t' → Ran v' t' cs rs → Ran v t (c ∷ cs) (a ∷ rs)
+
+-- each device that a run hands on has slots of that width
+abbrev pub WidthStays : ℕ → {v : Device} {t : Tables} {cs : List Call} {rs : List Answer} → Ran v t cs rs → Type 0
+WidthStays w done = Unit {0}
+WidthStays w (next {v} {v'} call ran) = (v'.queue.width ≡ w) × WidthStays w ran
 
 -- each call of a run that was refused left the device and all nine tables as they were
 abbrev pub RefusedStay : {v : Device} {t : Tables} {cs : List Call} {rs : List Answer} → Ran v t cs rs → Type 0

@@ -1,8 +1,9 @@
 -- An arrival that meets no refusal is decided, and what it counts does not overflow.
-use Rattle.std.proofs.Common.{◌≡◌, sym, ap, ◌∙◌, true, List, ℕ, ◌+◌, ◌<◌, ◌^◌, length, arith, Result, Ok, Err}
-use Rattle.std.specs.Prelude.{Float}
+use Rattle.std.proofs.Common.{◌≡◌, sym, ap, ◌∙◌, Bool, true, ◌&&◌, List, ℕ, ◌+◌, ◌<◌, ◌^◌, length, arith, Result, Ok, Err}
+use Rattle.std.specs.Prelude.{leb, Float}
 use Rattle.numbers.specs.Checks.{first_refusal}
 use Rattle.numbers.specs.Instant.{is_instant_of}
+use Rattle.numbers.specs.Laws.Both.{both_true}
 use Rattle.numbers.specs.Laws.Limits.{counter_below}
 use Rattle.numbers.specs.Limits.{is_length_of}
 use Rattle.numbers.specs.declared.refusal.Refusal.{Refusal}
@@ -43,19 +44,22 @@ unchecked_passes : (e : ArrivalEngine) (now : Float) (len : ℕ) → is_instant_
 unfolding decide_given_of judged_given_of first_refusal
 unchecked_passes e now len hi hl hc = rw (hi, hl, hc)
 
-module _ (width : ℕ) (v : Device) (t : Tables) (now : Float) (bytes : List ℕ) (route : ℕ) (h : arrive_refusal width v t now (length bytes) ≡ Ok tt)
+module _ (v : Device) (t : Tables) (now : Float) (bytes : List ℕ) (route : ℕ) (h : arrive_refusal v t now (length bytes) ≡ Ok tt)
     (e : ArrivalEngine) (r : Result Decision Refusal) (er : ◌≡◌ {A = Answered} (e, r) (decide_unchecked_of v.engine now (length bytes))) where
-  passed : Passed v (is_instant_of now) (is_length_of (length bytes))
-  passed = no_refusal v _ (is_instant_of now) (is_length_of (length bytes)) h
+  abbrev short : Bool
+  short = leb (length bytes) v.queue.width && is_length_of (length bytes)
+
+  passed : Passed v (is_instant_of now) short
+  passed = no_refusal v _ (is_instant_of now) short h
 
   decided : ◌≡◌ {A = Answered} (e, r) (answered_by (decide_passed_of v.engine now (length bytes)))
-  decided = er ∙ unchecked_passes v.engine now (length bytes) passed.instant_passes passed.length_passes passed.engine
+  decided = er ∙ unchecked_passes v.engine now (length bytes) passed.instant_passes (both_true (leb (length bytes) v.queue.width) (is_length_of (length bytes)) passed.length_passes).1 passed.engine
 
   -- the engine refuses nothing that was not refused before
   pub not_refused : {A : Type 0} (k : Refusal) → r ≡ Err k → A
   not_refused k hk = let z = sym hk ∙ ap (λ (x : Answered). x.1) decided in cc
 
-  module _ (d : Decision) (ed : r ≡ Ok d) (q : ImpairQueue) (s : Result Admitted Refusal) (t' : Tables) (ef : after (q, s) t' ≡ follow_of width v.queue t d now route bytes) where
+  module _ (d : Decision) (ed : r ≡ Ok d) (q : ImpairQueue) (s : Result Admitted Refusal) (t' : Tables) (ef : after (q, s) t' ≡ follow_of v.queue t d now route bytes) where
     is : ◌≡◌ {A = Decided} (e, d) (decide_passed_of v.engine now (length bytes))
     unfolding decide_passed_of
     is =
@@ -63,13 +67,13 @@ module _ (width : ℕ) (v : Device) (t : Tables) (now : Float) (bytes : List ℕ
         let decision = sym ed ∙ ap (λ (x : Answered). x.1) decided in
         cc
 
-    pub settled : after (settled_by s (decided_with v e q) d) t' ≡ arrive_of width v t now bytes route
+    pub settled : after (settled_by s (decided_with v e q) d) t' ≡ arrive_of v t now bytes route
     unfolding arrive_of
     settled = rw (h, ← is, ← ef)
 
     pub room : (a : Admitted) → s ≡ Ok a → Room v e a
     room a ea =
-        let bounds = rw (← ef, ea) at (follow_bounds width v.queue t d now route bytes) in
+        let bounds = rw (← ef, ea) at (follow_bounds v.queue t d now route bytes) in
         record {
           overflows = omega (arith, (small_stats v.engine.stats passed.stats).dropped_overflow, (decide_counts v.engine now (length bytes)).overflow, ap (λ (x : Decided). x.0.stats.dropped_overflow) is, bounds.overflowed_within);
           resets = omega (arith, (small_sends v.accounts passed.accounts).tcp_rst_kills, bounds.resets_within);

@@ -1,5 +1,5 @@
 -- An arrival: 23, 21, 22, 25; then the engine decides, the queue follows, and what came of it is counted.
-use Rattle.std.specs.Prelude.{List, ℕ, ◌+◌, Float, length, Result, Ok, Err}
+use Rattle.std.specs.Prelude.{◌&&◌, List, ℕ, ◌+◌, leb, Float, length, Result, Ok, Err}
 use Rattle.numbers.specs.Checks.{unless}
 use Rattle.numbers.specs.Instant.{is_instant_of}
 use Rattle.numbers.specs.Limits.{is_length_of}
@@ -45,10 +45,11 @@ not_arrived v e = (v, Err e)
 abbrev pub settled_in : Device → ArrivalEngine × Decision → After (ImpairQueue × Result Admitted Refusal) → After (Handed Arrived)
 settled_in v d f = after (settled_of v d f.gives) f.memory
 
-abbrev pub arrive_refusal : ℕ → Device → Tables → Float → ℕ → Result (Unit {0}) Refusal
-arrive_refusal width v t now len = call_refusal v (memory_of width v.queue.cap t) (is_instant_of now) (is_length_of len)
+-- 22: a packet that is longer than a slot. Where the width was altered it may be above what the engine takes, and those packets are refused too
+abbrev pub arrive_refusal : Device → Tables → Float → ℕ → Result (Unit {0}) Refusal
+arrive_refusal v t now len = call_refusal v (memory_of v.queue.width v.queue.cap t) (is_instant_of now) (leb len v.queue.width && is_length_of len)
 
-unfoldable pub arrive_of : ℕ → Device → Tables → Float → List ℕ → ℕ → After (Handed Arrived)
-arrive_of width v t now bytes route =
+unfoldable pub arrive_of : Device → Tables → Float → List ℕ → ℕ → After (Handed Arrived)
+arrive_of v t now bytes route =
     let d = decide_passed_of v.engine now (length bytes) in
-    unless (arrive_refusal width v t now (length bytes)) (settled_in v d (follow_of width v.queue t d.1 now route bytes)) (λ e. after (not_arrived v e) t)
+    unless (arrive_refusal v t now (length bytes)) (settled_in v d (follow_of v.queue t d.1 now route bytes)) (λ e. after (not_arrived v e) t)

@@ -1,5 +1,5 @@
--- Creation from settings, seed, salt, capacity and lent memory: 29, 24, 23. A refused one gives a device of the default settings, the generator's seed 0 and
--- capacity 1. The lent memory is only looked at.
+-- Creation from settings, seed, salt, capacity, slot width and lent memory: 29, 24, 30, 23. A refused one gives a device of the default settings, the generator's
+-- seed 0, capacity 1 and slots of 2,048 bytes. The lent memory is only looked at.
 use Rattle.std.specs.Prelude.{ℕ, Result, Ok, Err}
 use Rattle.numbers.specs.declared.refusal.Refusal.{Refusal}
 use Rattle.draws.specs.Mix.{direction_seed_of}
@@ -26,7 +26,7 @@ idle_device = fresh_device (fresh_of default_direction 0) smallest_queue
 abbrev pub not_created : Refusal → Handed (Unit {0})
 not_created e = (idle_device, Err e)
 
--- 24, 23: the queue's
+-- 24, 30, 23: the queue's
 unfoldable pub queued_by : ArrivalEngine → Result (Unit {0}) Refusal → ImpairQueue → Handed (Unit {0})
 queued_by e (Ok u) q = (fresh_device e q, Ok tt)
 queued_by e (Err r) q = not_created r
@@ -39,7 +39,7 @@ unfoldable pub created_by : Result (Unit {0}) Refusal → ArrivalEngine → Impa
 created_by (Ok u) e c = queued_on e c
 created_by (Err r) e c = not_created r
 
-unfoldable pub create_of : ℕ → DirectionConfig → ℕ → ℕ → ℕ → Tables → Handed (Unit {0})
-create_of width cfg seed salt cap t =
+unfoldable pub create_of : DirectionConfig → ℕ → ℕ → ℕ → ℕ → Tables → Handed (Unit {0})
+create_of cfg seed salt cap width t =
     let made = new_engine_of cfg (direction_seed_of seed salt) in
-    created_by made.1 made.0 (queue_of width cap t)
+    created_by made.1 made.0 (queue_of cap width t)

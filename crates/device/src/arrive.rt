@@ -2,7 +2,6 @@
 ghost use Rattle.std.specs.Prelude.{◌≡◌, ◌+◌, ◌<◌, ◌^◌};
 ghost use Rattle.tournament.specs.Trees.{SameTables};
 ghost use Rattle.queue.specs.Lent.{entry_tables, SameRows};
-ghost use Rattle.queue.specs.Refusals.{slot_width};
 ghost use Rattle.queue.specs.Tables.{after};
 ghost use Rattle.device.specs.Arrive.{counted_of, arrive_refusal, arrive_of};
 
@@ -22,7 +21,8 @@ pub struct Arrived {
 }
 
 impl Device {
-    // Refuses an arrival by 23, 21, 22 or 25.
+    // Refuses an arrival by 23, 21, 22 or 25. A packet may not be longer than a slot; that none is too long for the engine is tested beside it, since the width may
+    // have been altered.
     #[tactic(auto, unfolding(queue::specs::Refusals::memory_of, crate::specs::Refusals::call_refusal, numbers::specs::Checks::first_refusal, numbers::specs::Checks::check_of))]
     fn judge_arrival(
         &self,
@@ -32,14 +32,15 @@ impl Device {
         now_ms: f64,
         len: usize,
     ) -> Result<(), Refusal>
-        ensures { result ≡ arrive_refusal slot_width self.now (entry_tables tree.now free.now rows.now) now_ms len }
+        ensures { result ≡ arrive_refusal self.now (entry_tables tree.now free.now rows.now) now_ms len }
     {
         let memory = self
             .queue
             .has_memory(Sizes::of(tree.shared(), free, rows.shared()));
         check(memory, Refusal::Memory)?;
         check(numbers::is_instant(now_ms), Refusal::Instant)?;
-        check(numbers::is_length(len), Refusal::Length)?;
+        let short = (len <= self.queue.width as usize) & numbers::is_length(len);
+        check(short, Refusal::Length)?;
         self.judge_counters()
     }
 
@@ -68,7 +69,7 @@ impl Device {
         bytes: &[u8],
         route: u64,
     ) -> Result<Arrived, Refusal>
-        ensures arrived { after (self.new, result) (entry_tables tree.new free.now rows.new) ≡ arrive_of slot_width self.old (entry_tables tree.old free.now rows.old) now_ms bytes.now route }
+        ensures arrived { after (self.new, result) (entry_tables tree.new free.now rows.new) ≡ arrive_of self.old (entry_tables tree.old free.now rows.old) now_ms bytes.now route }
         ensures same { SameTables tree.old tree.new × SameRows rows.old rows.new }
     {
         self.judge_arrival(tree, free, rows, now_ms, bytes.len())?;
@@ -97,7 +98,7 @@ impl Device {
         bytes: &[u8],
         route: u64,
     ) -> (Device, Result<Arrived, Refusal>)
-        ensures arrived { after result (entry_tables tree.new free.now rows.new) ≡ arrive_of slot_width self (entry_tables tree.old free.now rows.old) now_ms bytes.now route }
+        ensures arrived { after result (entry_tables tree.new free.now rows.new) ≡ arrive_of self (entry_tables tree.old free.now rows.old) now_ms bytes.now route }
         ensures same { SameTables tree.old tree.new × SameRows rows.old rows.new }
     {
         let answer = self.arrive_in_place(tree, free, rows, now_ms, bytes, route);

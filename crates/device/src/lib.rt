@@ -12,5 +12,5 @@ mod teardown;
 
 pub use arrive::Arrived;
 pub use device::Device;
-pub use queue::payload;
+pub use queue::{DEFAULT_WIDTH, payload};
 pub use report::Report;

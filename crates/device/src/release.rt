@@ -2,7 +2,6 @@
 ghost use Rattle.std.specs.Prelude.{◌≡◌};
 ghost use Rattle.tournament.specs.Trees.{SameTables};
 ghost use Rattle.queue.specs.Lent.{exit_tables};
-ghost use Rattle.queue.specs.Refusals.{slot_width};
 ghost use Rattle.queue.specs.Tables.{after};
 ghost use Rattle.device.specs.Release.{sending_by, release_of};
 
@@ -11,8 +10,8 @@ use numbers::{Refusal, check};
 use queue::{Queued, Rows, Sizes, TreeMut};
 
 impl Device {
-    // What comes once the queue has answered: the copy is accounted with its latency. A queue that refuses was altered, and so was a length that 22 refuses.
-    #[tactic(auto, unfolding(crate::specs::Release::sending_by, crate::specs::Release::accounted_of, crate::specs::Release::send_answer_of))]
+    // What comes once the queue has answered: the copy is accounted with its latency. A queue that refuses was altered, and so was a length above the width.
+    #[tactic(auto, unfolding(crate::specs::Release::sending_by, crate::specs::Release::accounted_of, crate::specs::Release::send_answer_of, numbers::specs::Checks::check_of))]
     fn send(
         &mut self,
         released: Result<Option<Queued>, Refusal>,
@@ -23,6 +22,7 @@ impl Device {
         let Some(copy) = released.map_err(|_| Refusal::Keeping)? else {
             return Ok(None);
         };
+        check(copy.length <= self.queue.width as usize, Refusal::Keeping)?;
         let (accounts, sent) = self.accounts.on_send(copy.length, now_ms - copy.arrival_ms);
         self.accounts = accounts;
         sent.map(|()| Some(copy)).map_err(|_| Refusal::Keeping)
@@ -38,7 +38,7 @@ impl Device {
         rows: Rows<'_>,
         now_ms: f64,
     ) -> Result<Option<Queued>, Refusal>
-        ensures released { after (self.new, result) (exit_tables tree.new free.new rows.entry) ≡ release_of slot_width self.old (exit_tables tree.old free.old rows.entry) now_ms }
+        ensures released { after (self.new, result) (exit_tables tree.new free.new rows.entry) ≡ release_of self.old (exit_tables tree.old free.old rows.entry) now_ms }
         ensures same { SameTables tree.old tree.new }
     {
         let memory = self.queue.has_memory(Sizes::of(tree.shared(), free, rows));
@@ -58,7 +58,7 @@ impl Device {
         rows: Rows<'_>,
         now_ms: f64,
     ) -> (Device, Result<Option<Queued>, Refusal>)
-        ensures released { after result (exit_tables tree.new free.new rows.entry) ≡ release_of slot_width self (exit_tables tree.old free.old rows.entry) now_ms }
+        ensures released { after result (exit_tables tree.new free.new rows.entry) ≡ release_of self (exit_tables tree.old free.old rows.entry) now_ms }
         ensures same { SameTables tree.old tree.new }
     {
         let answer = self.release_in_place(tree, free, rows, now_ms);

@@ -17,7 +17,8 @@ pub fn run<W: Write + Drop>(host: &mut Host<W>) -> io::Result<()> {
     altered(host, "held 1 of 0, teardown", too_many_held, |host| {
         host.teardown()
     })?;
-    length(host)?;
+    length(host, "length 3000", 3000)?;
+    length(host, "length 9217", 9217)?;
     altered(host, "settings nan, arrive", wrong_settings, |host| {
         host.arrive(0.0, PACKET)
     })?;
@@ -55,11 +56,11 @@ fn wrong_settings(device: &mut Device) {
 }
 
 // The held copy is said to have more bytes than a slot: 26.
-fn length<W: Write + Drop>(host: &mut Host<W>) -> io::Result<()> {
-    host.case("length 3000", |host| {
+fn length<W: Write + Drop>(host: &mut Host<W>, name: &str, n: u32) -> io::Result<()> {
+    host.case(name, |host| {
         host.open(DirectionConfig::default())?;
         host.arrive(0.0, PACKET)?;
-        host.memory.lengths.fill(3000);
+        host.memory.lengths.fill(n);
         host.release(0.0)
     })
 }

@@ -13,10 +13,11 @@ use std::alloc::{AllocError, Global};
 use std::io;
 use std::io::Write;
 
-// How many copies the memory has room for, and how many bytes their slots have.
+// How many copies the memory has room for.
 const ENTRIES: u32 = 2;
 
-const STORE: usize = 4096;
+// The slot width of all devices but those that are about widths: the tests' own figure, written apart from that of `queue` on purpose.
+pub const WIDTH: u16 = 2048;
 
 impl<W: Write + Drop> Host<W> {
     // A new device of a capacity, with the seed and the salt 0, over memory of zeros, of which a table may lack its last entry.
@@ -26,9 +27,22 @@ impl<W: Write + Drop> Host<W> {
         cap: usize,
         short: Option<Table>,
     ) -> io::Result<()> {
-        self.memory = memory(self.alloc)?;
+        self.create_of_width(config, cap, WIDTH, short)
+    }
+
+    // The same with slots of another width, for which there is memory.
+    pub fn create_of_width(
+        &mut self,
+        config: DirectionConfig,
+        cap: usize,
+        width: u16,
+        short: Option<Table>,
+    ) -> io::Result<()> {
+        self.memory = memory(self.alloc, width)?;
+        self.room = width;
         self.short = short;
-        let (device, answer) = lent::create(&mut self.lent(), config, 0, 0, cap);
+        let lent = &mut self.lent();
+        let (device, answer) = lent::create(lent, config, 0, 0, cap, width as usize);
         self.device = device;
         self.kept = true;
         self.tell(Answered(answer.map(|_| "created")))
@@ -51,10 +65,8 @@ impl<W: Write + Drop> Host<W> {
         let before = self.device;
         let (after, answer) = lent::release(before, &mut self.lent(), now_ms);
         self.leave(after, answer.err());
-        let store = self.memory.store.as_slice();
-        let words = answer
-            .map(Answer::Released)
-            .map(|answer| Told { answer, store });
+        let released = answer.map(Answer::Released);
+        let words = Told::of(released, &self.memory.store, self.device.queue.width);
         write!(self.out, "; {}", Answered(words))
     }
 
@@ -79,6 +91,11 @@ impl<W: Write + Drop> Host<W> {
         write!(self.out, "; {}", DeviceWords(&self.device))
     }
 
+    // The slot width.
+    pub fn tell_width(&mut self) -> io::Result<()> {
+        write!(self.out, "; width {}", self.device.queue.width)
+    }
+
     // Whether each call since the creation that was refused, but not by 26, has kept the device.
     pub fn tell_kept(&mut self) -> io::Result<()> {
         self.tell(Flagged("kept ", self.kept))
@@ -89,6 +106,7 @@ impl<W: Write + Drop> Host<W> {
         let part = Part {
             start: 0,
             entries: ENTRIES,
+            width: self.room as u32,
             short: self.short,
         };
         self.memory.part(part)
@@ -103,7 +121,7 @@ impl<W: Write + Drop> Host<W> {
     }
 }
 
-// Memory of zeros.
-pub fn memory(alloc: Global) -> Result<Memory, AllocError> {
-    Memory::new(alloc, ENTRIES as usize, STORE)
+// Memory of zeros, for two copies of so many bytes.
+pub fn memory(alloc: Global, room: u16) -> Result<Memory, AllocError> {
+    Memory::new(alloc, ENTRIES as usize, ENTRIES as usize * room as usize)
 }

@@ -25,6 +25,19 @@ pub fn duplicates() -> DirectionConfig {
     }
 }
 
+// From 0 to 5 every arrival is dropped.
+pub fn blackout() -> DirectionConfig {
+    let window = Window {
+        start_ms: 0,
+        end_ms: 5,
+    };
+    DirectionConfig {
+        blackouts: [window; MAX_ENTRIES],
+        blackout_count: 1,
+        ..DirectionConfig::default()
+    }
+}
+
 // From 20 to 25 every arrival is a reset.
 pub fn kill() -> DirectionConfig {
     let kill = TcpKill {

@@ -7,9 +7,9 @@ use std::io;
 use std::io::Write;
 
 // The largest capacity.
-const LARGEST: usize = 1048576;
+pub const LARGEST: usize = 1048576;
 
-// The name of a case has the numbers of all refusals that are due, in document 01's order, 29, 24, 23: the first is to come.
+// The name of a case has the numbers of all refusals that are due, in the order 29, 24, 30, 23: the first is to come.
 pub fn run<W: Write + Drop>(host: &mut Host<W>) -> io::Result<()> {
     let wrong = configs::wrong();
     let delay = configs::delay(5.0);
@@ -33,7 +33,7 @@ fn over_short_tables<W: Write + Drop>(host: &mut Host<W>) -> io::Result<()> {
     Ok(())
 }
 
-// What a refused creation gives is a device of the default settings, the generator of seed 0 and capacity 1.
+// What a refused creation gives is a device of the default settings, the generator of seed 0, capacity 1 and slots of 2,048 bytes.
 fn create<W: Write + Drop>(
     host: &mut Host<W>,
     name: &str,

@@ -1,5 +1,6 @@
 // A host of one device, which prints each case on a line of its own.
 use crate::calls;
+use crate::calls::WIDTH;
 use device::Device;
 use device_words::lent;
 use options::DirectionConfig;
@@ -9,13 +10,14 @@ use std::fmt::Display;
 use std::io;
 use std::io::Write;
 
-// `short` is the table that the calls are lent without its last entry; `kept` says whether each call so far that was refused, but not by 26, has kept the
-// device as it was.
+// The store has `room` bytes for each copy. `short` is the table that the calls are lent without its last entry; `kept` says whether each call so far that was
+// refused, but not by 26, has kept the device as it was.
 #[derive(Drop)]
 pub struct Host<W: Write + Drop> {
     pub alloc: Global,
     pub out: W,
     pub memory: Memory,
+    pub room: u16,
     pub short: Option<Table>,
     pub device: Device,
     pub kept: bool,
@@ -24,12 +26,15 @@ pub struct Host<W: Write + Drop> {
 impl<W: Write + Drop> Host<W> {
     // Before the first creation: the device of a refused one.
     pub fn new(alloc: Global, out: W) -> io::Result<Self> {
-        let mut memory = calls::memory(alloc)?;
-        let (device, _) = lent::create(&mut memory.lent(), DirectionConfig::default(), 0, 0, 0);
+        let mut memory = calls::memory(alloc, WIDTH)?;
+        let config = DirectionConfig::default();
+        let width = WIDTH as usize;
+        let (device, _) = lent::create(&mut memory.lent(), config, 0, 0, 0, width);
         Ok(Host {
             alloc,
             out,
             memory,
+            room: WIDTH,
             short: None,
             device,
             kept: true,

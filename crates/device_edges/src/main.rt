@@ -1,5 +1,5 @@
-// Calls of the device on states, memory and arguments that no script makes; the file stdout has what document 01 says of them. A line has the name of a case
-// and the answers to its calls, one after the other.
+// Calls of the device on states, memory and arguments that no script makes; the file stdout has what documents 01 and 02 say of them. A line has the name
+// of a case and the answers to its calls, one after the other.
 #![tactic(auto)]
 
 mod altered;
@@ -13,6 +13,7 @@ mod packets;
 mod payloads;
 mod runs;
 mod state;
+mod widths;
 mod words;
 
 use host::Host;
@@ -28,5 +29,6 @@ fn main(rt: HostRuntime) -> io::Result<()> {
     altered::run(&mut host)?;
     runs::run(&mut host)?;
     payloads::run(&mut host)?;
+    widths::run(&mut host)?;
     host.out.flush()
 }

@@ -1,4 +1,5 @@
 // How many bytes a slot has in a store of two slots: those out of range are none.
+use crate::calls::WIDTH;
 use crate::host::Host;
 use std::io;
 use std::io::Write;
@@ -15,7 +16,7 @@ pub fn run<W: Write + Drop>(host: &mut Host<W>) -> io::Result<()> {
     let store = [0u8; 4096];
     for (name, slot, length) in CASES {
         host.case(name, |host| {
-            host.tell(device::payload(&store, slot, length).len())
+            host.tell(device::payload(&store, WIDTH as u32, slot, length).len())
         })?;
     }
     Ok(())

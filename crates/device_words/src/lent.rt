@@ -11,10 +11,11 @@ pub fn create(
     seed: u64,
     salt: u64,
     cap: usize,
+    width: usize,
 ) -> (Device, Result<(), Refusal>) {
     let free = &mut *lent.free;
     let (tree, rows) = (lent.tree.shared(), lent.rows.shared());
-    Device::create(settings, seed, salt, cap, tree, free, rows)
+    Device::create(settings, seed, salt, cap, width, tree, free, rows)
 }
 
 pub fn arrive(

@@ -22,13 +22,14 @@ pub fn say<W: Write>(out: &mut W) -> io::Result<()> {
     };
     let mut settings_refused = counter_refused;
     settings_refused.cfg.delay_ms = f64::NAN;
-    Case::new("29 21 22 25", settings_refused).say_arrival(out, f64::NAN, 2049)?;
-    Case::new("21 22 25", counter_refused).say_arrival(out, -0.0, 2049)?;
-    Case::new("22 25", counter_refused).say_arrival(out, 0.0, 2049)?;
-    Case::new("25", counter_refused).say_arrival(out, 0.0, 2048)?;
-    Case::new("none", passing).say_arrival(out, 0.0, 2048)?;
+    Case::new("29 21 22 25", settings_refused).say_arrival(out, f64::NAN, 9217)?;
+    Case::new("21 22 25", counter_refused).say_arrival(out, -0.0, 9217)?;
+    Case::new("22 25", counter_refused).say_arrival(out, 0.0, 9217)?;
+    Case::new("25", counter_refused).say_arrival(out, 0.0, 9216)?;
+    Case::new("none", passing).say_arrival(out, 0.0, 9216)?;
     Case::new("29 21 25", settings_refused).say_calls(out, f64::NAN)?;
     Case::new("21 25", counter_refused).say_calls(out, BEHIND_LAST)?;
     Case::new("25", counter_refused).say_calls(out, 0.0)?;
-    Case::new("none", passing).say_calls(out, LAST_INSTANT)
+    Case::new("none", passing).say_calls(out, LAST_INSTANT)?;
+    Case::new("none, longer than a slot of 2,048 bytes", passing).say_arrival(out, 0.0, 2049)
 }

@@ -5,7 +5,7 @@ use Rattle.numbers.specs.Checks.{first_failing}
 use Rattle.numbers.specs.Credit.{refilled_of, wait_of}
 use Rattle.numbers.specs.Extremes.{chosen_of}
 use Rattle.numbers.specs.Instant.{is_instant_of}
-use Rattle.numbers.specs.Limits.{is_length_of, is_counter_of}
+use Rattle.numbers.specs.Limits.{is_counter_of}
 use Rattle.draws.specs.Lines.{draw_lines}
 use Rattle.draws.specs.Mix.{mix_of, mix64_of}
 use Rattle.draws.specs.Rng.{new_rng_of, step_of, output_of, fraction_of, next_f64_of}
@@ -36,7 +36,7 @@ use Rattle.machine.specs.Lines.{OverflowLines, StarredLines}
 
 overflow_lines : OverflowLines
 unfolding answers after_all step arrive_step unless first_failing follow enter_copies enter_copy total in_range direction_with fresh_machine fresh_of next_rebind_of new_rng_of no_stats no_sends no_latencies
-    is_instant_of is_length_of is_counter_of stats_counters latencies_of accountant_counters mix_of mix64_of with_overflow with_others
+    is_instant_of is_counter_of stats_counters latencies_of accountant_counters mix_of mix64_of with_overflow with_others
     decide_passed_of after_of counted_of counts_of one_if state_of gate_at_of gate_of kill_gate_of any_window_of
     arrived_of passed_of from_ge from_mtu scheduled_of stopped_of chance_of burst_loss_of exceeds_of charged_of refilled_of bucket_capacity_of rate_capacity_of default_burst_of last_refill_of
     is_deferred_of jittered_of reordered_of owed_of waited_of wait_of

@@ -1,9 +1,10 @@
 -- What holds of every list of calls on a fresh machine, whatever it is made of, of every refused call and report, and of the dues that are held.
-use Rattle.std.specs.Prelude.{◌≡◌, true, List, [], ◌∷◌, ℕ, length}
+use Rattle.std.specs.Prelude.{◌≡◌, refl, true, List, [], ◌∷◌, ℕ, ◌≤◌, length}
 use Rattle.std.proofs.Common.{sym, ap, ◌∙◌, ⊎_elim, arith}
 use Rattle.std.specs.Float.Ieee.{le}
 use Rattle.std.specs.Float.Ieee.Bits.{is_true}
 use Rattle.numbers.specs.Laws.Kinds.{number_is, plus_number}
+use Rattle.numbers.specs.Limits.{max_width}
 use Rattle.judgement.specs.Settings.{is_settings_of}
 use Rattle.held.specs.Copies.{Copy, Mem, NumberDues}
 use Rattle.machine.specs.Machine.{Machine, Creation, fresh_machine}
@@ -12,10 +13,12 @@ use Rattle.machine.specs.Steps.{step, answers, after_all}
 use Rattle.machine.specs.Tally.{nothing, total, came_in, accounted_for, EachTells}
 use Rattle.machine.specs.Arrivals.{EachOwn}
 use Rattle.machine.specs.Bare.{bare_calls, bare_answers}
+use Rattle.machine.specs.Widths.{AllFit, of_width}
 use Rattle.machine.proofs.Laws.Held.{fresh_order, fresh_empty}
 use Rattle.machine.proofs.Laws.Count.{all_balance}
 use Rattle.machine.proofs.Laws.Own.{fresh_known, all_own}
 use Rattle.machine.proofs.Laws.Bare.{bare_answers_lem, fresh_bare}
+use Rattle.machine.proofs.Laws.Widths.{all_alike}
 use Rattle.machine.proofs.Laws.Refused.{step_refuses, report_changes_nothing}
 use Rattle.machine.proofs.Laws.Reports.{fresh_counted, all_tell}
 use Rattle.machine.proofs.Laws.Numbers.{all_sound, fresh_machine_sound}
@@ -40,6 +43,11 @@ pub alike : (made : Creation) (cs ds : List Call)
 alike made cs ds e =
     bytes_decide_nothing made cs ∙ ap (answers (fresh_machine made)) e ∙ sym (bytes_decide_nothing made ds)
 
+-- the width decides nothing where each packet fits: machines that differ in it alone answer alike
+pub width_decides_nothing : (made : Creation) (w : ℕ) (cs : List Call) → AllFit made.width cs → AllFit w cs → answers (fresh_machine (of_width made w)) cs ≡ answers (fresh_machine made) cs
+unfolding fresh_machine
+width_decides_nothing made w cs own other = all_alike w made.width (fresh_machine made) refl cs own other
+
 -- a report says what is counted from the answers before it, and its own numbers come out
 pub each_report : (made : Creation) (cs : List Call) → EachTells nothing (answers (fresh_machine made) cs)
 each_report made cs =
@@ -63,11 +71,11 @@ refused_stays m c k e = (step_refuses m c k e).stays
 pub report_stays : (m : Machine) → (step m report).then ≡ m
 report_stays m = report_changes_nothing m
 
--- with settings that 29 lets through no held copy has a due that is a NaN
-pub held_numbers : (made : Creation) → is_settings_of made.settings ≡ true → (cs : List Call) → Binary64 cs → NumberDues (after_all (fresh_machine made) cs).held
-held_numbers made settings cs fit c k = number_is (plus_number ((all_sound (fresh_machine made) (fresh_machine_sound made settings) cs fit).dues c k).clear)
+-- with settings that 29 lets through and a width of at most 9,216 no held copy has a due that is a NaN
+pub held_numbers : (made : Creation) → is_settings_of made.settings ≡ true → made.width ≤ max_width → (cs : List Call) → Binary64 cs → NumberDues (after_all (fresh_machine made) cs).held
+held_numbers made settings narrow cs fit c k = number_is (plus_number ((all_sound (fresh_machine made) (fresh_machine_sound made settings narrow) cs fit).dues c k).clear)
 
 -- or one before its arrival
-pub held_later : (made : Creation) → is_settings_of made.settings ≡ true → (cs : List Call) → Binary64 cs
+pub held_later : (made : Creation) → is_settings_of made.settings ≡ true → made.width ≤ max_width → (cs : List Call) → Binary64 cs
     → (c : Copy) → Mem c (after_all (fresh_machine made) cs).held → le c.arrival c.due ≡ true
-held_later made settings cs fit c k = is_true _ ((all_sound (fresh_machine made) (fresh_machine_sound made settings) cs fit).dues c k).later
+held_later made settings narrow cs fit c k = is_true _ ((all_sound (fresh_machine made) (fresh_machine_sound made settings narrow) cs fit).dues c k).later

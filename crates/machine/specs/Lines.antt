@@ -17,9 +17,9 @@ use Rattle.machine.specs.Tally.{total}
 abbrev duplicating : DirectionConfig
 duplicating = direction_with (whole 0) (whole 1) None None
 
--- a machine of capacity 1 with these settings, seed 1 and salt 0, and one arrival of three bytes at 0 with the route 7
+-- a machine of capacity 1 and slots of 64 bytes with these settings, seed 1 and salt 0, and one arrival of three bytes at 0 with the route 7
 abbrev single : Machine
-single = fresh_machine (host_creation duplicating 1 0 1)
+single = fresh_machine (host_creation duplicating 1 0 1 64)
 
 abbrev one : List Call
 one = arrive (whole 0) (1 ∷ 2 ∷ 3 ∷ []) 7 ∷ []

@@ -1,11 +1,10 @@
 -- What each call does, in the order of document 01 ("The plain machine"). A call is judged by 21, 22 and 25 on its arguments and the state; a refused one changes
 -- nothing.
-use Rattle.std.specs.Prelude.{Bool, true, false, cond, List, [], ◌∷◌, ◌++◌, ℕ, ◌+◌, ltb, eqb, Float, length}
+use Rattle.std.specs.Prelude.{Bool, true, false, cond, List, [], ◌∷◌, ◌++◌, ℕ, ◌+◌, leb, ltb, eqb, Float, length}
 use Rattle.std.specs.Float.{binary64}
 use Rattle.std.specs.Float.Ieee.{sub, le}
 use Rattle.numbers.specs.Checks.{Check, check, first_failing}
 use Rattle.numbers.specs.Instant.{is_instant_of}
-use Rattle.numbers.specs.Limits.{is_length_of}
 use Rattle.numbers.specs.Refusals.{refused_instant, refused_length, refused_counter}
 use Rattle.accounts.specs.Accountant.{sent_of, resets_of, merged_of}
 use Rattle.accounts.specs.declared.accountant.SendAccountant.{SendAccountant}
@@ -41,7 +40,7 @@ unless m instant short s = unless_refused m (first_failing (machine_checks m ins
 -- ---- arrive(now, bytes, route)
 
 abbrev pub with_engine : Machine → ArrivalEngine → Machine
-with_engine m e = machine e m.cap m.held m.next_seq m.accounts m.torn
+with_engine m e = machine e m.cap m.width m.held m.next_seq m.accounts m.torn
 
 -- the machine on the way, with the numbers of copies that have entered and overflowed
 pub record Entry : Type 0 where
@@ -55,7 +54,7 @@ entry m i o = record { then = m; entered = i; overflowed = o }
 -- the copy is the last of the held list and has the next seq
 abbrev pub with_copy : Machine → Float → Float → ℕ → ℕ → List ℕ → Machine
 with_copy m due now route id bytes =
-    machine m.engine m.cap (m.held ++ (copy due m.next_seq now route id (length bytes) bytes ∷ [])) (m.next_seq + 1) m.accounts m.torn
+    machine m.engine m.cap m.width (m.held ++ (copy due m.next_seq now route id (length bytes) bytes ∷ [])) (m.next_seq + 1) m.accounts m.torn
 
 -- a copy that finds room enters with the next seq; another is counted as overflow by the engine
 unfoldable pub enter_copy : Float → Float → ℕ → List ℕ → ℕ → Entry → Entry
@@ -71,10 +70,10 @@ enter_copies m due duplicated now bytes route =
 
 -- all held copies are counted as torn
 abbrev pub tear : Machine → Machine
-tear m = machine m.engine m.cap [] m.next_seq m.accounts (m.torn + length m.held)
+tear m = machine m.engine m.cap m.width [] m.next_seq m.accounts (m.torn + length m.held)
 
 abbrev pub with_accounts : Machine → SendAccountant → Machine
-with_accounts m a = machine m.engine m.cap m.held m.next_seq a m.torn
+with_accounts m a = machine m.engine m.cap m.width m.held m.next_seq a m.torn
 
 abbrev pub enters_as : Decision → Entry → Step
 enters_as d e = step_to (decided d e.entered e.overflowed 0) e.then
@@ -92,13 +91,13 @@ follow m KillRst now bytes route = step_to (decided KillRst 0 0 (length m.held))
 unfoldable pub arrive_step : Machine → Float → List ℕ → ℕ → Step
 arrive_step m now bytes route =
     let d = decide_passed_of m.engine now (length bytes) in
-    unless m (is_instant_of now) (is_length_of (length bytes)) (follow (with_engine m d.0) d.1 now bytes route)
+    unless m (is_instant_of now) (leb (length bytes) m.width) (follow (with_engine m d.0) d.1 now bytes route)
 
 -- ---- release(now)
 
 -- the copy is held no more and is accounted; its latency is the time since its arrival
 abbrev pub leave : Machine → Float → Copy → Machine
-leave m now c = machine m.engine m.cap (without c.seq m.held) m.next_seq (sent_of m.accounts c.length (sub binary64 now c.arrival)) m.torn
+leave m now c = machine m.engine m.cap m.width (without c.seq m.held) m.next_seq (sent_of m.accounts c.length (sub binary64 now c.arrival)) m.torn
 
 -- the copy that leaves is handed out
 unfoldable pub hand_out : Machine → Float → Leaving → Step

@@ -1,5 +1,5 @@
 -- The limits that refusals judge by.
-use Rattle.std.specs.Prelude.{ℕ, ◌^◌, Bool, nat_le, nat_lt}
+use Rattle.std.specs.Prelude.{ℕ, ◌^◌, Bool, ◌&&◌, nat_le, nat_lt}
 
 -- every whole number up to this one is a float; refusals 8 and 29 ask it of whole numbers, and 21 of instants
 abbrev pub max_exact : ℕ
@@ -9,9 +9,19 @@ max_exact = 2 ^ 53
 abbrev pub max_entries : ℕ
 max_entries = 128
 
--- refusal 22: the longest packet in bytes
+-- refusal 30: how many bytes a slot can have
+abbrev pub min_width : ℕ
+min_width = 64
+
+abbrev pub max_width : ℕ
+max_width = 9216
+
+unfoldable pub is_width_of : ℕ → Bool
+is_width_of n = nat_le min_width n && nat_le n max_width
+
+-- refusal 22, where there are no slots: the longest packet in bytes
 abbrev pub max_length : ℕ
-max_length = 2048
+max_length = max_width
 
 unfoldable pub is_length_of : ℕ → Bool
 is_length_of n = nat_le n max_length

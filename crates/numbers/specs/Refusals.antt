@@ -1,8 +1,8 @@
--- The numbers of the refusals, as document 01 gives them under "Who can cause a refusal".
+-- The numbers of the refusals, as document 01 gives them under "Who can cause a refusal", and document 02 with each request.
 use Rattle.std.specs.Prelude.{◌≡◌, ℕ, ◌<◌, ◌⊎◌, Result, MatchResult}
 use Rattle.numbers.specs.declared.refusal.Refusal.{Refusal}
 use Rattle.numbers.specs.declared.refusal.UnknownRefusal.{UnknownRefusal}
-use Rattle.numbers.specs.declared.refusal.Refusal.TheVariants.{TextLength, TextEnd, Byte, Argument, ValueLacking, Mode, Whole, WholeAbove, Zero, Decimal, Probability, GeParts, GeZero, Reorder, Colon, Window, KillParts, KillStyle, Entries, OtherMode, Instant, Length, Memory, Capacity, Counter, Keeping, Due, Full, Settings}
+use Rattle.numbers.specs.declared.refusal.Refusal.TheVariants.{TextLength, TextEnd, Byte, Argument, ValueLacking, Mode, Whole, WholeAbove, Zero, Decimal, Probability, GeParts, GeZero, Reorder, Colon, Window, KillParts, KillStyle, Entries, OtherMode, Instant, Length, Memory, Capacity, Counter, Keeping, Due, Full, Settings, Width}
 
 abbrev pub number_of : Refusal → ℕ
 number_of TextLength = 1
@@ -34,10 +34,11 @@ number_of Keeping = 26
 number_of Due = 27
 number_of Full = 28
 number_of Settings = 29
+number_of Width = 30
 
 -- the refusal with this number, or that none has it
 abbrev pub Numbers : ℕ → Result Refusal UnknownRefusal → Type 0
-Numbers number r = MatchResult r (λ refusal. number_of refusal ≡ number) (λ e. (e.0 ≡ number) × ((number ≡ 0) ⊎ (29 < number)))
+Numbers number r = MatchResult r (λ refusal. number_of refusal ≡ number) (λ e. (e.0 ≡ number) × ((number ≡ 0) ⊎ (30 < number)))
 
 -- a text that is too long
 abbrev pub refused_text_length : ℕ
@@ -123,7 +124,7 @@ refused_other_mode = 20
 abbrev pub refused_instant : ℕ
 refused_instant = 21
 
--- a packet that is too long
+-- a packet that is longer than a slot, or, where there are no slots, than any slot may be
 abbrev pub refused_length : ℕ
 refused_length = 22
 
@@ -154,3 +155,7 @@ refused_full = 28
 -- settings of which one is out of its range
 abbrev pub refused_settings : ℕ
 refused_settings = 29
+
+-- a slot width that is out of range
+abbrev pub refused_width : ℕ
+refused_width = 30

@@ -50,7 +50,7 @@ pub enum Refusal {
     OtherMode = 20,
     // An instant that is NaN, has its sign bit set or is above 2^53.
     Instant = 21,
-    // A length above the limit.
+    // A packet longer than a slot, or, where there are no slots, than any slot may be.
     Length = 22,
     // Lent memory that is too short.
     Memory = 23,
@@ -66,6 +66,8 @@ pub enum Refusal {
     Full = 28,
     // Settings of which one is out of its range.
     Settings = 29,
+    // A slot width that is out of range.
+    Width = 30,
 }
 
 // A number that stands for no refusal.
@@ -117,6 +119,7 @@ impl TryFrom<u32> for Refusal {
             27 => Ok(Refusal::Due),
             28 => Ok(Refusal::Full),
             29 => Ok(Refusal::Settings),
+            30 => Ok(Refusal::Width),
             _ => Err(UnknownRefusal(number)),
         }
     }
@@ -149,14 +152,15 @@ impl fmt::Display for Refusal {
                 "an option of the other mode: kill is for tcp; nat-change-every-ms, reorder and duplicate are for udp",
             Refusal::Instant =>
                 "an instant is not a number, has a minus sign or is above 9007199254740992 ms",
-            Refusal::Length => "a packet has more than 2,048 bytes",
-            Refusal::Memory => "the lent memory is too short for the capacity",
+            Refusal::Length => "a packet has more bytes than a slot, or more than 9,216",
+            Refusal::Memory => "the lent memory is too short for the capacity and the slot width",
             Refusal::Capacity => "the capacity is 0 or above 1,048,576",
             Refusal::Counter => "a counter that was handed in is 2^60 or more",
             Refusal::Keeping => "the device or its memory was changed between two calls",
             Refusal::Due => "a due is not a number",
             Refusal::Full => "the queue is full",
             Refusal::Settings => "the settings that were handed in are out of range",
+            Refusal::Width => "the slot width is below 64 or above 9,216",
         })
     }
 }

@@ -4,10 +4,10 @@ use Rattle.std.specs.Prelude.{Float, leb, eqb}
 use Rattle.std.specs.Float.Ieee.{is_nan}
 use borrow.Author.Tests.{leb-true}
 use Rattle.numbers.specs.Instant.{is_instant_of}
-use Rattle.numbers.specs.Limits.{max_capacity, counter_limit, is_counter_of}
+use Rattle.numbers.specs.Limits.{max_capacity, max_width, is_width_of, counter_limit, is_counter_of}
 use Rattle.numbers.specs.Laws.Both.{both_true}
 use Rattle.numbers.specs.Laws.Checks.{none_refused}
-use Rattle.numbers.specs.Laws.Limits.{counter_below}
+use Rattle.numbers.specs.Laws.Limits.{counter_below, width_within}
 use Rattle.queue.specs.Refusals.{queue_checks, in_keeping, push_refusal, release_refusal}
 use Rattle.queue.specs.declared.queue.ImpairQueue.{ImpairQueue}
 
@@ -17,11 +17,13 @@ pub record Sound (q : ImpairQueue) : Type 0 where
   pub leaves_within : q.leaves ≤ q.cap
   pub opened_within : q.opened ≤ q.leaves
   pub held_within : q.held ≤ q.opened
+  pub width_below : q.width ≤ max_width
 
 sound : (q : ImpairQueue) → in_keeping q ≡ true → Sound q
 unfolding in_keeping
 sound q keeping =
-    let held = both_true _ (leb q.held q.opened) keeping in
+    let width = both_true _ (is_width_of q.width) keeping in
+    let held = both_true _ (leb q.held q.opened) width.0 in
     let opened = both_true _ (leb q.opened q.leaves) held.0 in
     let leaves = both_true (leb q.cap max_capacity) (leb q.leaves q.cap) opened.0 in
     record {
@@ -29,19 +31,20 @@ sound q keeping =
       leaves_within = leb-true _ _ leaves.1;
       opened_within = leb-true _ _ opened.1;
       held_within = leb-true _ _ held.1;
+      width_below = (width_within q.width width.1).1;
     }
 
 -- a push that meets no refusal
-pub record Passed (width : ℕ) (q : ImpairQueue) (len : ℕ) : Type 0 where
+pub record Passed (q : ImpairQueue) (len : ℕ) : Type 0 where
   pub state : Sound q
   pub seq : q.next_seq < counter_limit
-  pub fits : len ≤ width
+  pub fits : len ≤ q.width
 
-pub push_passed : (width : ℕ) (q : ImpairQueue) (memory : Bool) (due arrival : Float) (len : ℕ) → push_refusal width q memory due arrival len ≡ Ok tt → Passed width q len
+pub push_passed : (q : ImpairQueue) (memory : Bool) (due arrival : Float) (len : ℕ) → push_refusal q memory due arrival len ≡ Ok tt → Passed q len
 unfolding push_refusal
-push_passed width q memory due arrival len h =
-    let all = none_refused (queue_checks memory (is_instant_of arrival) (leb len width) (not (is_nan due)) (is_counter_of q.next_seq) (in_keeping q) (not (eqb q.held q.cap))) h in
-    record { state = sound q all.1.1.1.1.1.0; seq = counter_below q.next_seq all.1.1.1.1.0; fits = leb-true len width all.1.1.0 }
+push_passed q memory due arrival len h =
+    let all = none_refused (queue_checks memory (is_instant_of arrival) (leb len q.width) (not (is_nan due)) (is_counter_of q.next_seq) (in_keeping q) (not (eqb q.held q.cap))) h in
+    record { state = sound q all.1.1.1.1.1.0; seq = counter_below q.next_seq all.1.1.1.1.0; fits = leb-true len q.width all.1.1.0 }
 
 pub release_passed : (q : ImpairQueue) (memory : Bool) (now : Float) → release_refusal q memory now ≡ Ok tt → Sound q
 unfolding release_refusal

@@ -4,7 +4,7 @@ use Rattle.std.specs.Prelude.{Bool, true, cond, not, ◌&&◌, List, ℕ, ◌+�
 use Rattle.std.specs.Float.Ieee.{le}
 use Rattle.std.specs.Result.{is_ok}
 use Rattle.numbers.specs.Checks.{unless}
-use Rattle.numbers.specs.Limits.{max_capacity}
+use Rattle.numbers.specs.Limits.{max_capacity, is_width_of}
 use Rattle.numbers.specs.Whole.{whole}
 use Rattle.numbers.specs.declared.refusal.Refusal.{Refusal}
 use Rattle.numbers.specs.declared.refusal.Refusal.TheVariants as refusal
@@ -23,28 +23,33 @@ Handed A = ImpairQueue × Result A Refusal
 
 -- ---- creation and drain
 
--- nothing is held, and no slot was used
-abbrev pub fresh : ℕ → ℕ → ImpairQueue
-fresh cap seq = record { cap = cap; held = 0; next_seq = seq; leaves = 0; opened = 0 }
+-- how many bytes a slot has where a creation was refused (document 02, "One")
+abbrev pub default_width : ℕ
+default_width = 2048
 
--- an empty queue of capacity 1
+-- nothing is held, and no slot was used
+abbrev pub fresh : ℕ → ℕ → ℕ → ImpairQueue
+fresh cap width seq = record { cap = cap; width = width; held = 0; next_seq = seq; leaves = 0; opened = 0 }
+
+-- an empty queue of capacity 1 and that width
 abbrev pub smallest_queue : ImpairQueue
-smallest_queue = fresh 1 0
+smallest_queue = fresh 1 default_width 0
 
 -- a refused creation gives it
 abbrev pub not_created : Refusal → Handed (Unit {0})
 not_created e = (smallest_queue, Err e)
 
--- a capacity that is 0 or too large is refused by 24, memory that is too short by 23
+-- of a capacity and a slot width: a capacity that is 0 or too large is refused by 24, a width out of range by 30, memory that is too short by 23
 unfoldable pub create_of : ℕ → ℕ → Tables → Handed (Unit {0})
-create_of width cap t =
+create_of cap width t =
     cond (not (leb 1 cap && leb cap max_capacity)) (not_created refusal.Capacity)
+    (cond (not (is_width_of width)) (not_created refusal.Width)
     (cond (not (memory_of width cap t)) (not_created refusal.Memory)
-    (fresh cap 0, Ok tt))
+    (fresh cap width 0, Ok tt)))
 
 -- all leave, and every slot is as if never used
 unfoldable pub drain_of : ImpairQueue → Handed ℕ
-drain_of q = unless (state_refusal q true) (fresh q.cap q.next_seq, Ok q.held) (λ e. (q, Err e))
+drain_of q = unless (state_refusal q true) (fresh q.cap q.width q.next_seq, Ok q.held) (λ e. (q, Err e))
 
 -- ---- push
 
@@ -54,7 +59,7 @@ next_slot q free = cond (eqb q.held q.opened) q.opened (get_or free (q.opened - 
 
 -- one copy more, in a tournament of so many leaves
 abbrev pub one_more : ImpairQueue → ℕ → ImpairQueue
-one_more q leaves = record { cap = q.cap; held = q.held + 1; next_seq = q.next_seq + 1; leaves = leaves; opened = max q.opened (q.held + 1) }
+one_more q leaves = record { cap = q.cap; width = q.width; held = q.held + 1; next_seq = q.next_seq + 1; leaves = leaves; opened = max q.opened (q.held + 1) }
 
 abbrev pub not_pushed : ImpairQueue → Refusal → Handed Entered
 not_pushed q e = (q, Err e)
@@ -68,10 +73,10 @@ unfoldable pub entered_of : ImpairQueue → Tree → List ℕ → Rows → After
 entered_of q g free r = after (one_more q g.leaves, Ok tt) (joined g free r)
 
 -- one copy enters the next slot; 26 where that is out of range, as only altered memory makes it, and nothing is written
-unfoldable pub enter_copy_of : ℕ → ImpairQueue → Tables → Float → Float → ℕ → ℕ → List ℕ → AfterCopy
-enter_copy_of width q t due arrival route id bytes =
+unfoldable pub enter_copy_of : ImpairQueue → Tables → Float → Float → ℕ → ℕ → List ℕ → AfterCopy
+enter_copy_of q t due arrival route id bytes =
     cond (fits_of q.cap q.leaves (next_slot q t.free))
-    (entered_of q (enter_of q.cap (next_slot q t.free) due q.next_seq (tree_of q.leaves t)) t.free (written_of width (rows_of t) (next_slot q t.free) arrival route id bytes))
+    (entered_of q (enter_of q.cap (next_slot q t.free) due q.next_seq (tree_of q.leaves t)) t.free (written_of q.width (rows_of t) (next_slot q t.free) arrival route id bytes))
     (after (q, Err refusal.Keeping) t)
 
 -- the answer after the last copy, of so many. Where that did not enter, state and tables are as far as the copies before it came
@@ -90,19 +95,19 @@ abbrev pub again_of : Bool → Handed (Unit {0}) → Bool
 again_of duplicated h = is_ok h.1 && duplicated && not (eqb h.0.held h.0.cap)
 
 -- what follows the first copy: of a packet that is duplicated a second one, with copy id 1 and the same due
-unfoldable pub second_of : ℕ → ℕ → Float → Float → ℕ → Bool → List ℕ → AfterCopy → After (Handed Entered)
-second_of width seq due arrival route duplicated bytes o =
-    cond (again_of duplicated o.gives) (told seq 2 (enter_copy_of width o.gives.0 o.memory due arrival route 1 bytes)) (told seq 1 o)
+unfoldable pub second_of : ℕ → Float → Float → ℕ → Bool → List ℕ → AfterCopy → After (Handed Entered)
+second_of seq due arrival route duplicated bytes o =
+    cond (again_of duplicated o.gives) (told seq 2 (enter_copy_of o.gives.0 o.memory due arrival route 1 bytes)) (told seq 1 o)
 
-unfoldable pub enter_copies_of : ℕ → ImpairQueue → Tables → Float → Float → ℕ → ℕ → Bool → List ℕ → After (Handed Entered)
-enter_copies_of width q t due arrival route id duplicated bytes =
-    second_of width q.next_seq due arrival route duplicated bytes (enter_copy_of width q t due arrival route id bytes)
+unfoldable pub enter_copies_of : ImpairQueue → Tables → Float → Float → ℕ → ℕ → Bool → List ℕ → After (Handed Entered)
+enter_copies_of q t due arrival route id duplicated bytes =
+    second_of q.next_seq due arrival route duplicated bytes (enter_copy_of q t due arrival route id bytes)
 
 -- judged once, on the state handed in
-unfoldable pub push_of : ℕ → ImpairQueue → Tables → Float → Float → ℕ → ℕ → Bool → List ℕ → After (Handed Entered)
-push_of width q t due arrival route id duplicated bytes =
-    unless (push_refusal width q (memory_of width q.cap t) due arrival (length bytes))
-    (enter_copies_of width q t due arrival route id duplicated bytes)
+unfoldable pub push_of : ImpairQueue → Tables → Float → Float → ℕ → ℕ → Bool → List ℕ → After (Handed Entered)
+push_of q t due arrival route id duplicated bytes =
+    unless (push_refusal q (memory_of q.width q.cap t) due arrival (length bytes))
+    (enter_copies_of q t due arrival route id duplicated bytes)
     (λ e. after (not_pushed q e) t)
 
 -- ---- release
@@ -122,7 +127,7 @@ queued_of dues seqs arrivals routes ids lengths slot =
 
 -- one copy less
 abbrev pub one_less : ImpairQueue → ImpairQueue
-one_less q = record { cap = q.cap; held = q.held - 1; next_seq = q.next_seq; leaves = q.leaves; opened = q.opened }
+one_less q = record { cap = q.cap; width = q.width; held = q.held - 1; next_seq = q.next_seq; leaves = q.leaves; opened = q.opened }
 
 abbrev pub not_released : ImpairQueue → Result (Option Queued) Refusal → Tables → After (Handed (Option Queued))
 not_released q a t = after (q, a) t
@@ -139,9 +144,9 @@ due_of q t now root =
     cond (leb q.leaves root) (not_released q (Err refusal.Keeping) t)
     (cond (le (get_or t.dues root (whole 0)) now) (left_of q t root) (not_released q (Ok None) t))
 
-unfoldable pub release_of : ℕ → ImpairQueue → Tables → Float → After (Handed (Option Queued))
-release_of width q t now =
-    unless (release_refusal q (memory_of width q.cap t) now)
+unfoldable pub release_of : ImpairQueue → Tables → Float → After (Handed (Option Queued))
+release_of q t now =
+    unless (release_refusal q (memory_of q.width q.cap t) now)
     (cond (eqb q.held 0) (not_released q (Ok None) t) (due_of q t now (least_of t.win q.leaves)))
     (λ e. not_released q (Err e) t)
 
@@ -162,6 +167,6 @@ len_of q = q.held
 abbrev pub is_empty_of : ImpairQueue → Bool
 is_empty_of q = eqb q.held 0
 
--- the bytes of a released copy, as a part of the store
+-- the bytes of a released copy, as a part of a store of slots of that width
 abbrev pub payload_of : ℕ → List ℕ → ℕ → ℕ → List ℕ
 payload_of width store slot len = part_of width store slot len

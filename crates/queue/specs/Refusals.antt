@@ -3,16 +3,12 @@ use Rattle.std.specs.Prelude.{Bool, true, not, ◌&&◌, List, [], ◌∷◌, �
 use Rattle.std.specs.Float.Ieee.{is_nan}
 use Rattle.numbers.specs.Checks.{Test, test, first_refusal}
 use Rattle.numbers.specs.Instant.{is_instant_of}
-use Rattle.numbers.specs.Limits.{max_capacity, is_counter_of}
+use Rattle.numbers.specs.Limits.{max_capacity, is_width_of, is_counter_of}
 use Rattle.numbers.specs.declared.refusal.Refusal.{Refusal}
 use Rattle.numbers.specs.declared.refusal.Refusal.TheVariants as refusal
 use Rattle.queue.specs.Tables.{Tables}
 use Rattle.queue.specs.declared.queue.ImpairQueue.{ImpairQueue}
 use Rattle.queue.specs.declared.sizes.Sizes.{Sizes}
-
--- how many bytes a slot has (document 01, "Records")
-abbrev pub slot_width : ℕ
-slot_width = 2048
 
 -- the tests of a call, each passed or not
 abbrev pub queue_checks : Bool → Bool → Bool → Bool → Bool → Bool → Bool → List Test
@@ -35,7 +31,7 @@ sizes_of t =
       store = length t.store;
     }
 
--- whether every lent table has an entry for each copy of the capacity, and the store a slot
+-- whether every lent table has an entry for each copy of the capacity, and the store a slot of that width
 unfoldable pub room_of : ℕ → ℕ → Sizes → Bool
 room_of width cap s =
     leb cap s.win && leb cap s.free && leb cap s.dues && leb cap s.seqs && leb cap s.arrivals && leb cap s.routes && leb cap s.copy_ids && leb cap s.lengths
@@ -48,14 +44,14 @@ memory_of width cap t = room_of width cap (sizes_of t)
 abbrev pub RoomFor : ℕ → ImpairQueue → Type 0
 RoomFor n q = (q.held + n < 2 ^ 32) × (q.next_seq + n < 2 ^ 64)
 
--- held ≤ opened ≤ leaves ≤ capacity ≤ 1,048,576
+-- held ≤ opened ≤ leaves ≤ capacity ≤ 1,048,576, and the width is one that slots can have
 unfoldable pub in_keeping : ImpairQueue → Bool
-in_keeping q = leb q.cap max_capacity && leb q.leaves q.cap && leb q.opened q.leaves && leb q.held q.opened
+in_keeping q = leb q.cap max_capacity && leb q.leaves q.cap && leb q.opened q.leaves && leb q.held q.opened && is_width_of q.width
 
 -- 23, 21 (the arrival), 22, 27, 25, 26, 28
-unfoldable pub push_refusal : ℕ → ImpairQueue → Bool → Float → Float → ℕ → Result (Unit {0}) Refusal
-push_refusal width q memory due arrival len =
-    first_refusal (queue_checks memory (is_instant_of arrival) (leb len width) (not (is_nan due)) (is_counter_of q.next_seq) (in_keeping q) (not (eqb q.held q.cap)))
+unfoldable pub push_refusal : ImpairQueue → Bool → Float → Float → ℕ → Result (Unit {0}) Refusal
+push_refusal q memory due arrival len =
+    first_refusal (queue_checks memory (is_instant_of arrival) (leb len q.width) (not (is_nan due)) (is_counter_of q.next_seq) (in_keeping q) (not (eqb q.held q.cap)))
 
 -- 23, 21, 25, 26
 unfoldable pub release_refusal : ImpairQueue → Bool → Float → Result (Unit {0}) Refusal

@@ -13,6 +13,7 @@ mod sizes;
 mod store;
 
 pub use answers::{Entered, Queued};
+pub use creation::DEFAULT_WIDTH;
 pub use queue::ImpairQueue;
 pub use rows::{Packet, Rows, RowsMut};
 pub use sizes::Sizes;

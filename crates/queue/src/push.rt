@@ -3,7 +3,7 @@ ghost use Rattle.std.specs.Prelude.{◌≡◌, ◌+◌, ◌<◌, ◌≤◌, ◌^
 ghost use Rattle.tournament.specs.Trees.{SameTables};
 ghost use Rattle.queue.specs.Tables.{after};
 ghost use Rattle.queue.specs.Lent.{entry_tables, SameRows};
-ghost use Rattle.queue.specs.Refusals.{slot_width, RoomFor};
+ghost use Rattle.queue.specs.Refusals.{RoomFor};
 ghost use Rattle.queue.specs.Calls.{next_slot, one_more, enter_copy_of, enter_copies_of, push_of};
 
 use crate::answers::Entered;
@@ -38,6 +38,7 @@ impl ImpairQueue {
         let held = self.held + 1;
         ImpairQueue {
             cap: self.cap,
+            width: self.width,
             held,
             next_seq: self.next_seq + 1,
             leaves,
@@ -56,7 +57,7 @@ impl ImpairQueue {
     ) -> (ImpairQueue, Result<(), Refusal>)
         requires { (self.held ≤ self.opened) × RoomFor 1 self × (length bytes.now < 2 ^ 32) }
         ensures counted { (result.0.held ≤ result.0.opened) × (result.0.held ≤ self.held + 1) × (result.0.next_seq ≤ self.next_seq + 1) }
-        ensures entered { after result (entry_tables tree.new free.now rows.new) ≡ enter_copy_of slot_width self (entry_tables tree.old free.now rows.old) packet.due_ms packet.arrival_ms packet.route packet.copy_id bytes.now }
+        ensures entered { after result (entry_tables tree.new free.now rows.new) ≡ enter_copy_of self (entry_tables tree.old free.now rows.old) packet.due_ms packet.arrival_ms packet.route packet.copy_id bytes.now }
         ensures same { SameTables tree.old tree.new × SameRows rows.old rows.new }
     {
         let slot = self.next_slot(free);
@@ -65,7 +66,7 @@ impl ImpairQueue {
         }
         let seq = self.next_seq;
         let leaves = tree.enter(self.cap, self.leaves, slot, packet.due_ms, seq);
-        rows.write(slot, packet, bytes);
+        rows.write(self.width, slot, packet, bytes);
         (self.one_more(leaves), Ok(()))
     }
 
@@ -79,7 +80,7 @@ impl ImpairQueue {
         bytes: &[u8],
     ) -> (ImpairQueue, Result<Entered, Refusal>)
         requires { (self.held ≤ self.opened) × RoomFor 2 self × (length bytes.now < 2 ^ 32) }
-        ensures entered { after result (entry_tables tree.new free.now rows.new) ≡ enter_copies_of slot_width self (entry_tables tree.old free.now rows.old) packet.due_ms packet.arrival_ms packet.route packet.copy_id packet.duplicated bytes.now }
+        ensures entered { after result (entry_tables tree.new free.now rows.new) ≡ enter_copies_of self (entry_tables tree.old free.now rows.old) packet.due_ms packet.arrival_ms packet.route packet.copy_id packet.duplicated bytes.now }
         ensures same { SameTables tree.old tree.new × SameRows rows.old rows.new }
     {
         let seq = self.next_seq;
@@ -107,7 +108,7 @@ impl ImpairQueue {
         packet: Packet,
         bytes: &[u8],
     ) -> (ImpairQueue, Result<Entered, Refusal>)
-        ensures pushed { after result (entry_tables tree.new free.now rows.new) ≡ push_of slot_width self (entry_tables tree.old free.now rows.old) packet.due_ms packet.arrival_ms packet.route packet.copy_id packet.duplicated bytes.now }
+        ensures pushed { after result (entry_tables tree.new free.now rows.new) ≡ push_of self (entry_tables tree.old free.now rows.old) packet.due_ms packet.arrival_ms packet.route packet.copy_id packet.duplicated bytes.now }
         ensures same { SameTables tree.old tree.new × SameRows rows.old rows.new }
     {
         let sizes = Sizes::of(tree.shared(), free, rows.shared());

@@ -2,11 +2,12 @@
 ghost use Rattle.std.specs.Prelude.{◌≡◌};
 ghost use Rattle.queue.specs.Calls.{len_of, is_empty_of};
 
-// `leaves` slots have a leaf in the tournament, and the first `opened` slots were used. The slots that copies have left lie in the table `free`,
-// the last one last.
+// A slot has `width` bytes. `leaves` slots have a leaf in the tournament, and the first `opened` slots were used. The slots that copies have left lie in the
+// table `free`, the last one last.
 #[derive(Clone, Copy, Debug, PartialEq, Eq)]
 pub struct ImpairQueue {
     pub cap: u32,
+    pub width: u32,
     pub held: u32,
     pub next_seq: u64,
     pub leaves: u32,

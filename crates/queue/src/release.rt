@@ -3,7 +3,6 @@ ghost use Rattle.std.specs.Prelude.{◌≡◌, ◌<◌, ◌≤◌, Some, Ok};
 ghost use Rattle.tournament.specs.Trees.{SameTables};
 ghost use Rattle.queue.specs.Tables.{after};
 ghost use Rattle.queue.specs.Lent.{exit_tables};
-ghost use Rattle.queue.specs.Refusals.{slot_width};
 ghost use Rattle.queue.specs.Calls.{queued_of, one_less, left_of, release_of};
 
 use crate::answers::Queued;
@@ -69,7 +68,7 @@ impl ImpairQueue {
         rows: Rows<'_>,
         now_ms: f64,
     ) -> (ImpairQueue, Result<Option<Queued>, Refusal>)
-        ensures released { after result (exit_tables tree.new free.new rows.entry) ≡ release_of slot_width self (exit_tables tree.old free.old rows.entry) now_ms }
+        ensures released { after result (exit_tables tree.new free.new rows.entry) ≡ release_of self (exit_tables tree.old free.old rows.entry) now_ms }
         ensures same { SameTables tree.old tree.new }
     {
         let seen = tree.shared();

@@ -2,9 +2,6 @@
 ghost use Rattle.std.specs.Prelude.{◌≡◌, ◌<◌, ◌^◌, length};
 ghost use Rattle.queue.specs.Tables.{written_of};
 ghost use Rattle.queue.specs.Lent.{rows_in, rows_seen, SameRows};
-ghost use Rattle.queue.specs.Refusals.{slot_width};
-
-use crate::store::SLOT_WIDTH;
 
 // The packet of which copies enter. Its bytes come beside it: in the struct, `Packet` and all that hold one would name their lifetime.
 #[derive(Clone, Copy, Debug, PartialEq)]
@@ -50,11 +47,11 @@ impl RowsMut<'_> {
         }
     }
 
-    // The copy's arrival, route, copy id, length and bytes are written into its slot.
+    // The copy's arrival, route, copy id, length and bytes are written into its slot, which has `width` bytes.
     #[tactic(auto, unfolding(crate::specs::Tables::written_of))]
-    pub(crate) fn write(&mut self, slot: u32, packet: Packet, bytes: &[u8])
+    pub(crate) fn write(&mut self, width: u32, slot: u32, packet: Packet, bytes: &[u8])
         requires { length bytes.now < 2 ^ 32 }
-        ensures written { rows_in self.new ≡ written_of slot_width (rows_in self.old) slot packet.arrival_ms packet.route packet.copy_id bytes.now }
+        ensures written { rows_in self.new ≡ written_of width (rows_in self.old) slot packet.arrival_ms packet.route packet.copy_id bytes.now }
         ensures same { SameRows self.old self.new }
     {
         let at = slot as usize;
@@ -62,6 +59,6 @@ impl RowsMut<'_> {
         tables::set(self.routes, at, packet.route);
         tables::set(self.copy_ids, at, packet.copy_id);
         tables::set(self.lengths, at, bytes.len() as u32);
-        tables::fill(self.store, SLOT_WIDTH, slot, bytes);
+        tables::fill(self.store, width, slot, bytes);
     }
 }

@@ -1,10 +1,9 @@
 // How long the lent tables and the store are.
 ghost use Rattle.std.specs.Prelude.{◌≡◌};
 ghost use Rattle.queue.specs.Lent.{seen_tables};
-ghost use Rattle.queue.specs.Refusals.{slot_width, sizes_of, room_of};
+ghost use Rattle.queue.specs.Refusals.{sizes_of, room_of};
 
 use crate::rows::Rows;
-use crate::store::SLOT_WIDTH;
 use tournament::Tree;
 
 #[derive(Clone, Copy)]
@@ -38,9 +37,9 @@ impl Sizes {
         }
     }
 
-    // Whether there is room for a capacity.
-    pub(crate) fn have_room(self, cap: u32) -> bool
-        ensures { result ≡ room_of slot_width cap self }
+    // Whether there is room for a capacity of slots of that width.
+    pub(crate) fn have_room(self, cap: u32, width: u32) -> bool
+        ensures { result ≡ room_of width cap self }
     {
         let entries = cap as usize;
         let shortest = self
@@ -52,6 +51,6 @@ impl Sizes {
             .min(self.routes)
             .min(self.copy_ids)
             .min(self.lengths);
-        (entries <= shortest) & (entries * SLOT_WIDTH as usize <= self.store)
+        (entries <= shortest) & (entries * width as usize <= self.store)
     }
 }

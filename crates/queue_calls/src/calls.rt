@@ -7,8 +7,7 @@ use queue::{ImpairQueue, Packet};
 // A call with what it is given but for the memory.
 #[derive(Clone, Copy, Debug, PartialEq)]
 pub enum Call<'a> {
-    // The capacity.
-    Create(usize),
+    Create { cap: usize, width: usize },
     // The packet and its bytes.
     Push(Packet, &'a [u8]),
     // The instant.
@@ -25,8 +24,9 @@ impl Call<'_> {
         let free = &mut *lent.free;
         let rows = &mut lent.rows;
         match self {
-            Call::Create(cap) => {
-                let created = ImpairQueue::create(cap, tree.shared(), free, rows.shared());
+            Call::Create { cap, width } => {
+                let (seen, rows) = (tree.shared(), rows.shared());
+                let created = ImpairQueue::create(cap, width, seen, free, rows);
                 kept(queue, created).map(|_| Answer::Created)
             }
             Call::Push(packet, bytes) => {

@@ -3,14 +3,12 @@ ghost use Rattle.std.specs.Prelude.{◌≤◌};
 
 use crate::table::Table;
 
-// The bytes of the store for each entry: the tests' own figure, written apart from that of `queue` on purpose.
-const SLOT_WIDTH: usize = 2048;
-
-// From entry `start` of each table on so many entries, and of the store from byte `start` on 2,048 bytes for each; the table `short` lacks its last one.
+// From entry `start` of each table on so many entries, and of the store from byte `start` on `width` bytes for each; the table `short` lacks its last one.
 #[derive(Clone, Copy)]
 pub struct Part {
     pub start: u32,
     pub entries: u32,
+    pub width: u32,
     pub short: Option<Table>,
 }
 
@@ -19,8 +17,8 @@ impl Part {
     pub fn end(self, table: Table) -> usize
         ensures { self.start ≤ result }
     {
-        let width = if table == Table::Store { SLOT_WIDTH } else { 1 };
-        let whole = self.entries as usize * width;
+        let width = if table == Table::Store { self.width } else { 1 };
+        let whole = self.entries as usize * width as usize;
         self.start as usize + whole.saturating_sub(usize::from(self.short == Some(table)))
     }
 

@@ -1,15 +1,32 @@
 // The queue's answers as words.
 use crate::answers::Answer;
+use numbers::Refusal;
 use output::Bits;
 use queue::Queued;
 use script::payload;
 use std::fmt;
 
-// An answer, and the store in which the bytes of a copy that left lie.
+// An answer, and the store in which the bytes of a copy that left lie, with the width of its slots.
 #[derive(Clone, Copy)]
 pub struct Told<'a> {
     pub answer: Answer,
     pub store: &'a [u8],
+    pub width: u32,
+}
+
+impl Told<'_> {
+    // What a call gave, with the store and the slot width where it was not refused.
+    pub fn of(
+        answer: Result<Answer, Refusal>,
+        store: &[u8],
+        width: u32,
+    ) -> Result<Told<'_>, Refusal> {
+        answer.map(|answer| Told {
+            answer,
+            store,
+            width,
+        })
+    }
 }
 
 impl fmt::Display for Told<'_> {
@@ -18,8 +35,8 @@ impl fmt::Display for Told<'_> {
             Answer::Created => f.write_str("created"),
             Answer::Entered(entered) => write!(f, "entered {}", entered.seq),
             Answer::Released(Some(copy)) => {
-                let store = self.store;
-                write!(f, "released {}", Left { copy, store })
+                let (store, width) = (self.store, self.width);
+                write!(f, "released {}", Left { copy, store, width })
             }
             Answer::Released(None) => f.write_str("none"),
             Answer::Due(Some(due_ms)) => write!(f, "due {}", Bits(due_ms)),
@@ -37,12 +54,13 @@ impl fmt::Display for Told<'_> {
 struct Left<'a> {
     copy: Queued,
     store: &'a [u8],
+    width: u32,
 }
 
 impl fmt::Display for Left<'_> {
     fn fmt<W: fmt::Write>(&self, f: &mut fmt::Formatter<W>) -> fmt::Result {
         let copy = self.copy;
-        let bytes = queue::payload(self.store, copy.slot, copy.length);
+        let bytes = queue::payload(self.store, self.width, copy.slot, copy.length);
         write!(f, "{} {} ", Bits(copy.due_ms), copy.seq)?;
         write!(f, "{} {} ", Bits(copy.arrival_ms), copy.route)?;
         write!(f, "{} {} ", copy.copy_id, copy.length)?;

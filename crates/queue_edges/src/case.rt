@@ -6,26 +6,30 @@ use queue_calls::{Call, Memory, Table};
 use std::io;
 use std::io::Write;
 
-// Memory for two copies is lent, of which the table `short` lacks an entry.
+// Memory for two copies of `room` bytes is lent, of which the table `short` lacks an entry.
 #[derive(Clone, Copy)]
 pub struct Case<'a> {
     pub name: &'a str,
     pub queue: ImpairQueue,
+    pub room: u32,
     pub short: Option<Table>,
 }
 
 impl Case<'_> {
-    // No table is short.
+    // There is room for 2,048 bytes of each copy, and no table is short.
     pub fn new(name: &str, queue: ImpairQueue) -> Case<'_> {
         Case {
             name,
             queue,
+            room: states::WIDTH,
             short: None,
         }
     }
 
+    // A slot has 2,048 bytes.
     pub fn create<W: Write>(self, lines: &mut Lines<W>, cap: usize) -> io::Result<()> {
-        self.line(lines, "create", Call::Create(cap))
+        let width = states::WIDTH as usize;
+        self.line(lines, "create", Call::Create { cap, width })
     }
 
     // The copy has n bytes.
@@ -60,9 +64,10 @@ impl Case<'_> {
     }
 
     fn line<W: Write>(self, lines: &mut Lines<W>, word: &str, call: Call<'_>) -> io::Result<()> {
-        let mut memory = Memory::new(lines.alloc, 2, 4096)?;
+        let mut memory = Memory::new(lines.alloc, 2, 2 * self.room as usize)?;
+        let part = states::two(self.room, self.short);
         let mut queue = self.queue;
-        let answer = call.make(&mut queue, &mut memory.part(states::two(self.short)));
+        let answer = call.make(&mut queue, &mut memory.part(part));
         write!(lines.out, "{word} {}", self.name)?;
         lines.end(answer, &memory, queue)
     }

@@ -1,5 +1,5 @@
 // The state, the lent memory and the call of a seed.
-use crate::scatter;
+use crate::{scatter, states};
 use queue::{ImpairQueue, Packet};
 use queue_calls::{Call, Part, Table};
 
@@ -18,11 +18,19 @@ fn in_keeping(cap: u32, seed: u64) -> ImpairQueue {
     let opened = up_to(draws::mix(seed, 33), leaves);
     ImpairQueue {
         cap,
+        width: states::WIDTH,
         held: up_to(draws::mix(seed, 34), opened),
         next_seq: seq_of(draws::mix(seed, 35)),
         leaves,
         opened,
     }
+}
+
+// The slot width altered: one that slots can have, or one near a limit.
+pub fn width_of(seed: u64) -> u32 {
+    let widths = [0, 63, 64, 65, 200, 2048, 9216, 9217, u32::MAX];
+    let n = (draws::mix(seed, 42) % 9) as usize;
+    tables::get(&widths, n, 0)
 }
 
 // A number up to a bound, often the bound itself.
@@ -33,6 +41,7 @@ fn up_to(n: u64, bound: u32) -> u32 {
 fn any(cap: u32, seed: u64) -> ImpairQueue {
     ImpairQueue {
         cap,
+        width: states::WIDTH,
         held: field_of(draws::mix(seed, 32), cap),
         next_seq: seq_of(draws::mix(seed, 35)),
         leaves: field_of(draws::mix(seed, 33), cap),
@@ -72,6 +81,7 @@ pub fn part_of(seed: u64) -> Part {
             0 => (n / 8 % 9) as u32,
             _ => 8,
         },
+        width: states::WIDTH,
         short: match n / 128 % 4 {
             0 => table_of(n / 1024),
             _ => None,

@@ -1,4 +1,4 @@
-// Creations: 24 comes before 23, and a refused one gives a queue of capacity 1.
+// Creations with slots of 2,048 bytes: 24 comes before 23, and a refused one gives a queue of capacity 1 and of that width.
 use crate::case::Case;
 use crate::lines::Lines;
 use crate::states;

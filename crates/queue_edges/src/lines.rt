@@ -22,9 +22,19 @@ impl<W: Write> Lines<W> {
         memory: &Memory,
         left: ImpairQueue,
     ) -> io::Result<()> {
-        let store = &memory.store;
-        let told = answer.map(|answer| Told { answer, store });
-        writeln!(self.out, ": {}; {}", Answered(told), State(left))
+        self.tell(answer, memory, left)?;
+        writeln!(self.out)
+    }
+
+    // The answer and the state that is left, without the line's end.
+    pub fn tell(
+        &mut self,
+        answer: Result<Answer, Refusal>,
+        memory: &Memory,
+        left: ImpairQueue,
+    ) -> io::Result<()> {
+        let answer = Told::of(answer, &memory.store, left.width);
+        write!(self.out, ": {}; {}", Answered(answer), State(left))
     }
 }
 

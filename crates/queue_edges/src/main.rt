@@ -1,5 +1,5 @@
-// Calls of the queue on memory and states that no earlier call has left; the file stdout has what document 01 says of them, and of calls that
-// are drawn how many had each answer.
+// Calls of the queue on memory and states that no earlier call has left; the file stdout has what documents 01 and 02 say of them, and of
+// calls that are drawn how many had each answer.
 #![tactic(auto)]
 
 mod altered;
@@ -18,6 +18,7 @@ mod seqs_end;
 mod short;
 mod states;
 mod twice;
+mod widths;
 
 use crate::lines::Lines;
 use std::io;
@@ -41,5 +42,10 @@ fn main(rt: HostRuntime) -> io::Result<()> {
     parts::ends(&mut lines)?;
     parts::many(&mut lines)?;
     altered::run(&mut lines)?;
+    widths::creations(&mut lines)?;
+    widths::slots(&mut lines)?;
+    widths::altered(&mut lines)?;
+    parts::widths(&mut lines)?;
+    altered::run_widths(&mut lines)?;
     lines.out.flush()
 }

@@ -59,7 +59,11 @@ pub fn questions<W: Write>(lines: &mut Lines<W>) -> io::Result<()> {
         ("26", states::altered(5), None),
         ("none, store short", states::empty(5), Some(Table::Store)),
     ] {
-        Case { name, queue, short }.next_due(lines)?;
+        let case = Case {
+            short,
+            ..Case::new(name, queue)
+        };
+        case.next_due(lines)?;
     }
     Ok(())
 }

@@ -32,13 +32,13 @@ use Rattle.queue_laws.specs.Laws.Push.{Entered, copy_enters}
 use Rattle.queue_laws.specs.Laws.Release.{some_held, root_below, number_dues, root_least, release_keeps}
 
 -- what a call says and leaves agrees with a step of the plain queue
-pub record Agree (width : ℕ) (s : Said) (step : Step) : Type 0 where
+pub record Agree (s : Said) (step : Step) : Type 0 where
   pub says : s.reply ≡ step.reply
-  pub keeps : Keeps width s.tables s.queue step.then
+  pub keeps : Keeps s.tables s.queue step.then
 
 -- ---- the copies that enter
 
-module _ (width : ℕ) (t : Tables) (q : ImpairQueue) (p : Plain) (k : Keeps width t q p) where
+module _ (t : Tables) (q : ImpairQueue) (p : Plain) (k : Keeps t q p) where
   same_full : eqb q.held q.cap ≡ is_full p
   same_full = rw (k.count, k.same_cap)
 
@@ -47,44 +47,47 @@ module _ (width : ℕ) (t : Tables) (q : ImpairQueue) (p : Plain) (k : Keeps wid
   has_room e = omega (arith, k.held_in, k.opened_in, k.leaves_in, k.count, k.same_cap, eqb-false (length p.held) p.cap e)
 
 -- the answer after the last copy
-told_agrees : (width seq copies : ℕ) (o : AfterCopy) (p : Plain) → Entered width o p → Agree width (said_by_push (told seq copies o)) (step_to (entered seq copies) p)
+told_agrees : (seq copies : ℕ) (o : AfterCopy) (p : Plain) → Entered o p → Agree (said_by_push (told seq copies o)) (step_to (entered seq copies) p)
 unfolding told_by
-told_agrees width seq copies o p h = rw h.fits (record { says = refl; keeps = h.keeps })
+told_agrees seq copies o p h = rw h.fits (record { says = refl; keeps = h.keeps })
 
 -- what follows a first copy with that seq
-module _ (width : ℕ) (o : AfterCopy) (p : Plain) (h : Entered width o p) (seq : ℕ) (due arrival : Float) (route : ℕ) (duplicated : Bool) (bytes : List ℕ)
-    (num : is_nan due ≡ false) (fit : length bytes ≤ width) (below : p.next_seq ≤ counter_limit) where
+module _ (o : AfterCopy) (p : Plain) (h : Entered o p) (seq : ℕ) (due arrival : Float) (route : ℕ) (duplicated : Bool) (bytes : List ℕ)
+    (num : is_nan due ≡ false) (fit : length bytes ≤ p.width) (below : p.next_seq ≤ counter_limit) where
   again_same : again_of duplicated o.gives ≡ (duplicated && not (is_full p))
-  again_same = rw (h.fits, same_full width o.memory o.gives.0 p h.keeps)
+  again_same = rw (h.fits, same_full o.memory o.gives.0 p h.keeps)
 
-  second_agrees : Agree width (said_by_push (second_of width seq due arrival route duplicated bytes o)) (second_plain seq p due arrival route duplicated bytes)
+  second_agrees : Agree (said_by_push (second_of seq due arrival route duplicated bytes o)) (second_plain seq p due arrival route duplicated bytes)
   unfolding second_of second_plain
   second_agrees = go (duplicated && not (is_full p)) refl
     where
-      go : (b : Bool) → (duplicated && not (is_full p)) ≡ b → Agree width (said_by_push (second_of width seq due arrival route duplicated bytes o)) (second_plain seq p due arrival route duplicated bytes)
-      go false e = rw (again_same, e) (told_agrees width seq 1 o p h)
+      go : (b : Bool) → (duplicated && not (is_full p)) ≡ b → Agree (said_by_push (second_of seq due arrival route duplicated bytes o)) (second_plain seq p due arrival route duplicated bytes)
+      go false e = rw (again_same, e) (told_agrees seq 1 o p h)
       go true e =
-          let room = has_room width o.memory o.gives.0 p h.keeps (not-true (is_full p) (both_true duplicated (not (is_full p)) e).1) in
-          rw (again_same, e) (told_agrees width seq 2 _ _ (copy_enters width o.memory o.gives.0 p h.keeps room due arrival route 1 bytes num fit (omega (arith, h.keeps.same_next, below))))
+          let room = has_room o.memory o.gives.0 p h.keeps (not-true (is_full p) (both_true duplicated (not (is_full p)) e).1) in
+          rw (again_same, e) (told_agrees seq 2 _ _ (copy_enters o.memory o.gives.0 p h.keeps room due arrival route 1 bytes num (omega (arith, fit, h.keeps.same_width)) (omega (arith, h.keeps.same_next, below))))
 
-module _ (width : ℕ) (t : Tables) (q : ImpairQueue) (p : Plain) (k : Keeps width t q p) where
+module _ (t : Tables) (q : ImpairQueue) (p : Plain) (k : Keeps t q p) where
   -- ---- the refusals: neither the memory nor the keeping fails
 
-  memory_holds : memory_of width q.cap t ≡ true
-  memory_holds = long_memory width q.cap t k.long
+  memory_holds : memory_of q.width q.cap t ≡ true
+  memory_holds = long_memory q.width q.cap t k.long
 
   keeping_holds : in_keeping q ≡ true
   unfolding in_keeping
-  keeping_holds = both _ _ (both _ _ (both _ _ (le-leb _ _ k.small) (le-leb _ _ k.leaves_in)) (le-leb _ _ k.opened_in)) (le-leb _ _ k.held_in)
+  keeping_holds = both _ _ (both _ _ (both _ _ (both _ _ (le-leb _ _ k.small) (le-leb _ _ k.leaves_in)) (le-leb _ _ k.opened_in)) (le-leb _ _ k.held_in)) k.wide
+
+  same_fits : (len : ℕ) → leb len q.width ≡ leb len p.width
+  same_fits len = rw k.same_width
 
   same_counter : is_counter_of q.next_seq ≡ is_counter_of p.next_seq
   same_counter = rw k.same_next
 
-  push_number : (due arrival : Float) (len : ℕ) → number_if (push_refusal width q (memory_of width q.cap t) due arrival len) ≡ first_failing (push_checks width p due arrival len)
+  push_number : (due arrival : Float) (len : ℕ) → number_if (push_refusal q (memory_of q.width q.cap t) due arrival len) ≡ first_failing (push_checks p due arrival len)
   unfolding push_refusal first_failing
-  push_number due arrival len = number_first _ ∙ (rw (memory_holds, keeping_holds, same_full width t q p k, same_counter))
+  push_number due arrival len = number_first _ ∙ (rw (memory_holds, keeping_holds, same_full t q p k, same_fits len, same_counter))
 
-  release_number : (now : Float) → number_if (release_refusal q (memory_of width q.cap t) now) ≡ first_failing (release_checks p now)
+  release_number : (now : Float) → number_if (release_refusal q (memory_of q.width q.cap t) now) ≡ first_failing (release_checks p now)
   unfolding release_refusal first_failing
   release_number now = number_first _ ∙ (rw (memory_holds, keeping_holds, same_counter))
 
@@ -94,8 +97,8 @@ module _ (width : ℕ) (t : Tables) (q : ImpairQueue) (p : Plain) (k : Keeps wid
 
   -- a call that is refused by the number by which the plain queue refuses, and else does what its step does
   by_number : {A : Type 0} (says : A → Said) (done : A) (refusal : Refusal → A) (s : Step) → ((e : Refusal) → says (refusal e) ≡ said (refused (number_of e)) q t)
-      → (r : Result (Unit {0}) Refusal) (m : ℕ) → number_if r ≡ m → (m ≡ 0 → Agree width (says done) s)
-      → Agree width (says (unless r done refusal)) (unless_refused p m s)
+      → (r : Result (Unit {0}) Refusal) (m : ℕ) → number_if r ≡ m → (m ≡ 0 → Agree (says done) s)
+      → Agree (says (unless r done refusal)) (unless_refused p m s)
   by_number says done refusal s refuses (Ok u) m same h = rw (← same) (h (sym same))
   by_number says done refusal s refuses (Err e) m same h = rw (← same, number_some e, refuses e) (record { says = refl; keeps = k })
 
@@ -103,26 +106,26 @@ module _ (width : ℕ) (t : Tables) (q : ImpairQueue) (p : Plain) (k : Keeps wid
 
   module _ (due arrival : Float) (route id : ℕ) (duplicated : Bool) (bytes : List ℕ) where
     -- the first copy enters, then what follows it
-    push_enters : is_full p ≡ false → is_nan due ≡ false → length bytes ≤ width → p.next_seq < counter_limit
-        → Agree width (said_by_push (second_of width q.next_seq due arrival route duplicated bytes (enter_copy_of width q t due arrival route id bytes)))
+    push_enters : is_full p ≡ false → is_nan due ≡ false → length bytes ≤ p.width → p.next_seq < counter_limit
+        → Agree (said_by_push (second_of q.next_seq due arrival route duplicated bytes (enter_copy_of q t due arrival route id bytes)))
         (second_plain p.next_seq (with_copy p due arrival route id bytes) due arrival route duplicated bytes)
     push_enters room num fit below =
-        let one = copy_enters width t q p k (has_room width t q p k room) due arrival route id bytes num fit (omega (arith, k.same_next, below)) in
-        subst (λ (seq : ℕ). Agree width (said_by_push (second_of width seq due arrival route duplicated bytes (enter_copy_of width q t due arrival route id bytes)))
+        let one = copy_enters t q p k (has_room t q p k room) due arrival route id bytes num (omega (arith, fit, k.same_width)) (omega (arith, k.same_next, below)) in
+        subst (λ (seq : ℕ). Agree (said_by_push (second_of seq due arrival route duplicated bytes (enter_copy_of q t due arrival route id bytes)))
         (second_plain p.next_seq (with_copy p due arrival route id bytes) due arrival route duplicated bytes)) (sym k.same_next)
-        (second_agrees width (enter_copy_of width q t due arrival route id bytes) (with_copy p due arrival route id bytes) one p.next_seq due arrival route duplicated bytes num fit (omega (arith, below)))
+        (second_agrees (enter_copy_of q t due arrival route id bytes) (with_copy p due arrival route id bytes) one p.next_seq due arrival route duplicated bytes num fit (omega (arith, below)))
 
     -- a push, on any arguments
-    pub push_agrees : Agree width (said_by_push (push_of width q t due arrival route id duplicated bytes)) (push_plain width p due arrival route id duplicated bytes)
+    pub push_agrees : Agree (said_by_push (push_of q t due arrival route id duplicated bytes)) (push_plain p due arrival route id duplicated bytes)
     unfolding push_of enter_copies_of push_plain
     push_agrees =
-        by_number said_by_push (enter_copies_of width q t due arrival route id duplicated bytes) (λ (e : Refusal). after (not_pushed q e) t) _ (λ (e : Refusal). refl) _ _ (push_number due arrival (length bytes)) enters
+        by_number said_by_push (enter_copies_of q t due arrival route id duplicated bytes) (λ (e : Refusal). after (not_pushed q e) t) _ (λ (e : Refusal). refl) _ _ (push_number due arrival (length bytes)) enters
       where
-        enters : first_failing (push_checks width p due arrival (length bytes)) ≡ 0
-            → Agree width (said_by_push (second_of width q.next_seq due arrival route duplicated bytes (enter_copy_of width q t due arrival route id bytes)))
+        enters : first_failing (push_checks p due arrival (length bytes)) ≡ 0
+            → Agree (said_by_push (second_of q.next_seq due arrival route duplicated bytes (enter_copy_of q t due arrival route id bytes)))
             (second_plain p.next_seq (with_copy p due arrival route id bytes) due arrival route duplicated bytes)
         enters z =
-            let all = none_failing (push_checks width p due arrival (length bytes)) refl z in
+            let all = none_failing (push_checks p due arrival (length bytes)) refl z in
             push_enters (not-true (is_full p) all.1.1.1.1.0) (not-true (is_nan due) all.1.1.0) (leb-true _ _ all.1.0) (counter_below p.next_seq all.1.1.1.0)
 
   -- ---- release
@@ -137,44 +140,44 @@ module _ (width : ℕ) (t : Tables) (q : ImpairQueue) (p : Plain) (k : Keeps wid
   -- where some copy is held, the root is a slot in use
   module _ (c : Copy) (l : List Copy) (e : p.held ≡ c ∷ l) where
     not_empty : eqb q.held 0 ≡ false
-    not_empty = ne_eqb q.held 0 (λ z. omega (arith, some_held width t q p k c l e))
+    not_empty = ne_eqb q.held 0 (λ z. omega (arith, some_held t q p k c l e))
 
     in_tree : leb q.leaves root ≡ false
-    in_tree = lt-leb q.leaves root (root_below width t q p k c l e)
+    in_tree = lt-leb q.leaves root (root_below t q p k c l e)
 
   module _ (now : Float) where
     -- the least of all, if it is due
-    root_leaves : (c : Copy) (l : List Copy) → p.held ≡ c ∷ l → leaving now p.held ≡ if_due now (row_of width t root)
-    root_leaves c l e = ap (leaving now) e ∙ least_due_lem now c l (number_dues width t q p k c l e) ∙ ap (if_due now) (root_least width t q p k c l e)
+    root_leaves : (c : Copy) (l : List Copy) → p.held ≡ c ∷ l → leaving now p.held ≡ if_due now (row_of q.width t root)
+    root_leaves c l e = ap (leaving now) e ∙ least_due_lem now c l (number_dues t q p k c l e) ∙ ap (if_due now) (root_least t q p k c l e)
 
     due_or_not : (c : Copy) (l : List Copy) (e : p.held ≡ c ∷ l) (b : Bool) → le (get_or t.dues root (whole 0)) now ≡ b
-        → Agree width (said_by_release width (by_due b)) (hand_out p (if_due now (row_of width t root)))
+        → Agree (said_by_release (by_due b)) (hand_out p (if_due now (row_of q.width t root)))
     unfolding hand_out left_of
-    due_or_not c l e true h = rw h (record { says = refl; keeps = release_keeps width t q p k c l e })
+    due_or_not c l e true h = rw h (record { says = refl; keeps = release_keeps t q p k c l e })
     due_or_not c l e false h = rw h (record { says = refl; keeps = k })
 
     -- by what is held
     hands_out : (h : List Copy) → p.held ≡ h
-        → Agree width (said_by_release width (cond (eqb q.held 0) (not_released q (Ok None) t) (due_of q t now root))) (hand_out p (leaving now p.held))
+        → Agree (said_by_release (cond (eqb q.held 0) (not_released q (Ok None) t) (due_of q t now root))) (hand_out p (leaving now p.held))
     unfolding hand_out leaving due_by least_in due_of
     hands_out [] e = rw (eq-eqb q.held 0 (k.count ∙ ap length e))
-        (subst (λ (h : List Copy). Agree width (said none_due q t) (hand_out p (leaving now h))) (sym e) (record { says = refl; keeps = k }))
+        (subst (λ (h : List Copy). Agree (said none_due q t) (hand_out p (leaving now h))) (sym e) (record { says = refl; keeps = k }))
     hands_out (c ∷ l) e = rw (not_empty c l e, in_tree c l e, root_leaves c l e) (due_or_not c l e (le (get_or t.dues root (whole 0)) now) refl)
 
     -- a release, at any instant
-    pub release_agrees : Agree width (said_by_release width (release_of width q t now)) (release_plain p now)
+    pub release_agrees : Agree (said_by_release (release_of q t now)) (release_plain p now)
     unfolding release_of release_plain
     release_agrees =
-        by_number (said_by_release width) (cond (eqb q.held 0) (not_released q (Ok None) t) (due_of q t now root)) (λ (e : Refusal). not_released q (Err e) t) _ (λ (e : Refusal). refl) _ _
+        by_number said_by_release (cond (eqb q.held 0) (not_released q (Ok None) t) (due_of q t now root)) (λ (e : Refusal). not_released q (Err e) t) _ (λ (e : Refusal). refl) _ _
         (release_number now) (λ z. hands_out p.held refl)
 
   -- ---- drain
 
-  pub drain_agrees : Agree width (said_by_drain t (drain_of q)) (drain_plain p)
+  pub drain_agrees : Agree (said_by_drain t (drain_of q)) (drain_plain p)
   unfolding drain_of drain_plain
   drain_agrees =
-      by_number (said_by_drain t) (fresh q.cap q.next_seq, Ok q.held) (λ (e : Refusal). (q, Err e)) _ (λ (e : Refusal). refl) _ _
-      state_number (λ z. record { says = ap drained k.count; keeps = drained_keeps width t q p k })
+      by_number (said_by_drain t) (fresh q.cap q.width q.next_seq, Ok q.held) (λ (e : Refusal). (q, Err e)) _ (λ (e : Refusal). refl) _ _
+      state_number (λ z. record { says = ap drained k.count; keeps = drained_keeps t q p k })
 
   -- ---- questions
 
@@ -186,9 +189,9 @@ module _ (width : ℕ) (t : Tables) (q : ImpairQueue) (p : Plain) (k : Keeps wid
   tells_least : (h : List Copy) → p.held ≡ h → said_of_due (cond (eqb q.held 0) (Ok None) (due_at q t.dues root)) ≡ least_due p.held
   unfolding least_due due_at
   tells_least [] e = rw (eq-eqb q.held 0 (k.count ∙ ap length e), e)
-  tells_least (c ∷ l) e = rw (not_empty c l e, in_tree c l e, e) (ap (λ (x : Copy). due_next x.due) (sym (root_least width t q p k c l e)))
+  tells_least (c ∷ l) e = rw (not_empty c l e, in_tree c l e, e) (ap (λ (x : Copy). due_next x.due) (sym (root_least t q p k c l e)))
 
-  pub due_agrees : Agree width (said (said_of_due (next_due_of q t.win t.dues)) q t) (next_due_plain p)
+  pub due_agrees : Agree (said (said_of_due (next_due_of q t.win t.dues)) q t) (next_due_plain p)
   unfolding next_due_of next_due_plain
   due_agrees =
       by_number (λ (a : Result (Option Float) Refusal). said (said_of_due a) q t) (cond (eqb q.held 0) (Ok None) (due_at q t.dues root)) (λ (e : Refusal). Err e) _ (λ (e : Refusal). refl) _ _ due_number

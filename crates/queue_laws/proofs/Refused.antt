@@ -45,10 +45,10 @@ clear_none p n e = let z : ◌≡◌ {A = ℕ} 0 1 = cc in absurd (omega arith)
 clear_entered : (seq copies : ℕ) (p : Plain) → Clear (step_to (entered seq copies) p)
 clear_entered seq copies p n e = let z : ◌≡◌ {A = ℕ} 0 1 = cc in absurd (omega arith)
 
-push_clear : (width : ℕ) (p : Plain) (due arrival : Float) (route id : ℕ) (duplicated : Bool) (bytes : List ℕ) → Clear (push_plain width p due arrival route id duplicated bytes)
+push_clear : (p : Plain) (due arrival : Float) (route id : ℕ) (duplicated : Bool) (bytes : List ℕ) → Clear (push_plain p due arrival route id duplicated bytes)
 unfolding push_plain second_plain
-push_clear width p due arrival route id duplicated bytes =
-    clear_unless p (push_checks width p due arrival (length bytes)) _
+push_clear p due arrival route id duplicated bytes =
+    clear_unless p (push_checks p due arrival (length bytes)) _
     ((λ f. ((λ z. omega arith), λ z. omega arith)), ((λ f. ((λ z. omega arith), λ z. omega arith)), ((λ f. ((λ z. omega arith), λ z. omega arith)), ((λ f. ((λ z. omega arith), λ z. omega arith)), ((λ f. ((λ z. omega arith), λ z. omega arith)), tt)))))
     (cond_has Clear (duplicated && not (is_full (with_copy p due arrival route id bytes))) (clear_entered p.next_seq 2 (with_copy (with_copy p due arrival route id bytes) due arrival route 1 bytes)) (clear_entered p.next_seq 1 (with_copy p due arrival route id bytes)))
 
@@ -75,22 +75,22 @@ due_clear : (p : Plain) → Clear (next_due_plain p)
 unfolding next_due_plain
 due_clear p = clear_state p _ (clear_least p.held p)
 
-step_clear : (width : ℕ) (p : Plain) (c : Call) → Clear (step width p c)
+step_clear : (p : Plain) (c : Call) → Clear (step p c)
 unfolding step
-step_clear width p (push due arrival route id duplicated bytes) = push_clear width p due arrival route id duplicated bytes
-step_clear width p (release now) = release_clear p now
-step_clear width p drain = drain_clear p
-step_clear width p next_due = due_clear p
-step_clear width p len = λ (n : ℕ) (e : holds (length p.held) ≡ refused n). let z : ◌≡◌ {A = ℕ} 0 1 = cc in absurd (omega arith)
-step_clear width p is_empty = λ (n : ℕ) (e : tells (eqb (length p.held) 0) ≡ refused n). let z : ◌≡◌ {A = ℕ} 0 1 = cc in absurd (omega arith)
-step_clear width p has_memory = λ (n : ℕ) (e : tells true ≡ refused n). let z : ◌≡◌ {A = ℕ} 0 1 = cc in absurd (omega arith)
+step_clear p (push due arrival route id duplicated bytes) = push_clear p due arrival route id duplicated bytes
+step_clear p (release now) = release_clear p now
+step_clear p drain = drain_clear p
+step_clear p next_due = due_clear p
+step_clear p len = λ (n : ℕ) (e : holds (length p.held) ≡ refused n). let z : ◌≡◌ {A = ℕ} 0 1 = cc in absurd (omega arith)
+step_clear p is_empty = λ (n : ℕ) (e : tells (eqb (length p.held) 0) ≡ refused n). let z : ◌≡◌ {A = ℕ} 0 1 = cc in absurd (omega arith)
+step_clear p has_memory = λ (n : ℕ) (e : tells true ≡ refused n). let z : ◌≡◌ {A = ℕ} 0 1 = cc in absurd (omega arith)
 
 -- no call is refused with 23 or 26
-pub neither_refused : (width : ℕ) (t : Tables) (q : ImpairQueue) (p : Plain) → Keeps width t q p → (c : Call) (n : ℕ) → (answer_to width q t c).reply ≡ refused n → Neither n
-neither_refused width t q p k c n e = step_clear width p c n (sym (call_agrees width t q p k c).says ∙ e)
+pub neither_refused : (t : Tables) (q : ImpairQueue) (p : Plain) → Keeps t q p → (c : Call) (n : ℕ) → (answer_to q t c).reply ≡ refused n → Neither n
+neither_refused t q p k c n e = step_clear p c n (sym (call_agrees t q p k c).says ∙ e)
 
 -- 28 comes only where as many copies are held as the capacity
-module _ (width : ℕ) (t : Tables) (q : ImpairQueue) (p : Plain) (k : Keeps width t q p) (due arrival : Float) (route id : ℕ) (duplicated : Bool) (bytes : List ℕ) where
+module _ (t : Tables) (q : ImpairQueue) (p : Plain) (k : Keeps t q p) (due arrival : Float) (route id : ℕ) (duplicated : Bool) (bytes : List ℕ) where
   abbrev Full : Step → Type 0
   Full s = s.reply ≡ refused refused_full → length p.held ≡ p.cap
 
@@ -100,12 +100,12 @@ module _ (width : ℕ) (t : Tables) (q : ImpairQueue) (p : Plain) (k : Keeps wid
   none_refused : (copies : ℕ) (r : Plain) → Full (step_to (entered p.next_seq copies) r)
   none_refused copies r e = let z : ◌≡◌ {A = ℕ} 0 1 = cc in absurd (omega arith)
 
-  plain_full : Full (push_plain width p due arrival route id duplicated bytes)
+  plain_full : Full (push_plain p due arrival route id duplicated bytes)
   unfolding push_plain second_plain
   plain_full =
-      cond_has Full (eqb (first_failing (push_checks width p due arrival (length bytes))) 0)
+      cond_has Full (eqb (first_failing (push_checks p due arrival (length bytes))) 0)
       (cond_has Full (duplicated && not (is_full (with_copy p due arrival route id bytes))) (none_refused 2 (with_copy (with_copy p due arrival route id bytes) due arrival route 1 bytes)) (none_refused 1 (with_copy p due arrival route id bytes)))
-      (first_has (λ (n : ℕ). Full (step_to (refused n) p)) (push_checks width p due arrival (length bytes)) (other_number 0 (λ z. omega arith)) (
+      (first_has (λ (n : ℕ). Full (step_to (refused n) p)) (push_checks p due arrival (length bytes)) (other_number 0 (λ z. omega arith)) (
         (λ f. other_number refused_instant (λ z. omega arith)),
         (
           (λ f. other_number refused_length (λ z. omega arith)),
@@ -122,15 +122,15 @@ module _ (width : ℕ) (t : Tables) (q : ImpairQueue) (p : Plain) (k : Keeps wid
         ),
       ))
 
-  pub full_only : (said_by_push (push_of width q t due arrival route id duplicated bytes)).reply ≡ refused refused_full → length p.held ≡ p.cap
-  full_only e = plain_full (sym (push_agrees width t q p k due arrival route id duplicated bytes).says ∙ e)
+  pub full_only : (said_by_push (push_of q t due arrival route id duplicated bytes)).reply ≡ refused refused_full → length p.held ≡ p.cap
+  full_only e = plain_full (sym (push_agrees t q p k due arrival route id duplicated bytes).says ∙ e)
 
   -- and there it comes, for a packet that meets no other refusal
-  plain_refused : is_instant_of arrival ≡ true → length bytes ≤ width → is_nan due ≡ false → is_counter_of p.next_seq ≡ true → length p.held ≡ p.cap
-      → (push_plain width p due arrival route id duplicated bytes).reply ≡ refused refused_full
+  plain_refused : is_instant_of arrival ≡ true → length bytes ≤ p.width → is_nan due ≡ false → is_counter_of p.next_seq ≡ true → length p.held ≡ p.cap
+      → (push_plain p due arrival route id duplicated bytes).reply ≡ refused refused_full
   unfolding push_plain first_failing
-  plain_refused a b c d e = rw (a, le-leb (length bytes) width b, c, d, eq-eqb (length p.held) p.cap e)
+  plain_refused a b c d e = rw (a, le-leb (length bytes) p.width b, c, d, eq-eqb (length p.held) p.cap e)
 
-  pub full_refused : is_instant_of arrival ≡ true → length bytes ≤ width → is_nan due ≡ false → is_counter_of p.next_seq ≡ true → length p.held ≡ p.cap
-      → (said_by_push (push_of width q t due arrival route id duplicated bytes)).reply ≡ refused refused_full
-  full_refused a b c d e = (push_agrees width t q p k due arrival route id duplicated bytes).says ∙ plain_refused a b c d e
+  pub full_refused : is_instant_of arrival ≡ true → length bytes ≤ p.width → is_nan due ≡ false → is_counter_of p.next_seq ≡ true → length p.held ≡ p.cap
+      → (said_by_push (push_of q t due arrival route id duplicated bytes)).reply ≡ refused refused_full
+  full_refused a b c d e = (push_agrees t q p k due arrival route id duplicated bytes).says ∙ plain_refused a b c d e

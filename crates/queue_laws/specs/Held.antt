@@ -1,5 +1,5 @@
--- The plain queue: a list of the copies that are held, in the order in which they entered, beside the capacity and the next seq. It knows no slots, no
--- tables and no tree. Laws shows that the calls of crates/queue answer as it does.
+-- The plain queue: a list of the copies that are held, in the order in which they entered, beside the capacity, the most bytes that a copy may have and the next
+-- seq. It knows no slots, no tables and no tree. Laws shows that the calls of crates/queue answer as it does.
 use Rattle.std.specs.Prelude.{Bool, true, cond, not, ◌&&◌, List, [], ◌∷◌, ◌++◌, ℕ, ◌+◌, leb, eqb, Float, length}
 use Rattle.std.specs.Float.Ieee.{is_nan}
 use Rattle.numbers.specs.Checks.{Check, check, first_failing}
@@ -10,11 +10,12 @@ use Rattle.held.specs.Copies.{Copy, copy, least, without, Leaving, no_copy, one_
 
 pub record Plain : Type 0 where
   pub cap : ℕ
+  pub width : ℕ
   pub held : List Copy
   pub next_seq : ℕ
 
-abbrev pub plain : ℕ → List Copy → ℕ → Plain
-plain c h n = record { cap = c; held = h; next_seq = n }
+abbrev pub plain : ℕ → ℕ → List Copy → ℕ → Plain
+plain c w h n = record { cap = c; width = w; held = h; next_seq = n }
 
 -- a push has a due, an arrival, a route, a copy id, whether the packet is duplicated, and bytes; a release has an instant; the last four only ask
 pub data Call : Type 0 where
@@ -55,7 +56,7 @@ is_full p = eqb (length p.held) p.cap
 
 -- a copy more, at the end and with the next seq
 abbrev pub with_copy : Plain → Float → Float → ℕ → ℕ → List ℕ → Plain
-with_copy p due arrival route id bytes = plain p.cap (p.held ++ (copy due p.next_seq arrival route id (length bytes) bytes ∷ [])) (p.next_seq + 1)
+with_copy p due arrival route id bytes = plain p.cap p.width (p.held ++ (copy due p.next_seq arrival route id (length bytes) bytes ∷ [])) (p.next_seq + 1)
 
 -- what follows a first copy with that seq: of a packet that is duplicated a second one, with copy id 1 and the same due, unless the queue is full by then
 unfoldable pub second_plain : ℕ → Plain → Float → Float → ℕ → Bool → List ℕ → Step
@@ -63,21 +64,21 @@ second_plain seq p due arrival route duplicated bytes =
     cond (duplicated && not (is_full p)) (step_to (entered seq 2) (with_copy p due arrival route 1 bytes)) (step_to (entered seq 1) p)
 
 -- 21 (the arrival), 22, 27, 25, 28
-abbrev pub push_checks : ℕ → Plain → Float → Float → ℕ → List Check
-push_checks width p due arrival n =
-    check (is_instant_of arrival) refused_instant ∷ check (leb n width) refused_length ∷ check (not (is_nan due)) refused_due ∷ check (is_counter_of p.next_seq) refused_counter
+abbrev pub push_checks : Plain → Float → Float → ℕ → List Check
+push_checks p due arrival n =
+    check (is_instant_of arrival) refused_instant ∷ check (leb n p.width) refused_length ∷ check (not (is_nan due)) refused_due ∷ check (is_counter_of p.next_seq) refused_counter
     ∷ check (not (is_full p)) refused_full ∷ []
 
 -- judged once; then the copies enter
-unfoldable pub push_plain : ℕ → Plain → Float → Float → ℕ → ℕ → Bool → List ℕ → Step
-push_plain width p due arrival route id duplicated bytes =
-    unless_refused p (first_failing (push_checks width p due arrival (length bytes)))
+unfoldable pub push_plain : Plain → Float → Float → ℕ → ℕ → Bool → List ℕ → Step
+push_plain p due arrival route id duplicated bytes =
+    unless_refused p (first_failing (push_checks p due arrival (length bytes)))
     (second_plain p.next_seq (with_copy p due arrival route id bytes) due arrival route duplicated bytes)
 
 -- the copy that leaves is handed out, and all but it are left
 unfoldable pub hand_out : Plain → Leaving → Step
 hand_out p no_copy = step_to none_due p
-hand_out p (one_copy c) = step_to (released c) (plain p.cap (without c.seq p.held) p.next_seq)
+hand_out p (one_copy c) = step_to (released c) (plain p.cap p.width (without c.seq p.held) p.next_seq)
 
 -- 21, 25
 abbrev pub release_checks : Plain → Float → List Check
@@ -93,7 +94,7 @@ state_checks p = check (is_counter_of p.next_seq) refused_counter ∷ []
 
 -- all leave, and their number is told
 unfoldable pub drain_plain : Plain → Step
-drain_plain p = unless_refused p (first_failing (state_checks p)) (step_to (drained (length p.held)) (plain p.cap [] p.next_seq))
+drain_plain p = unless_refused p (first_failing (state_checks p)) (step_to (drained (length p.held)) (plain p.cap p.width [] p.next_seq))
 
 unfoldable pub least_due : List Copy → Reply
 least_due [] = none_held
@@ -103,17 +104,17 @@ least_due (c ∷ l) = due_next (least c l).due
 unfoldable pub next_due_plain : Plain → Step
 next_due_plain p = unless_refused p (first_failing (state_checks p)) (step_to (least_due p.held) p)
 
-unfoldable pub step : ℕ → Plain → Call → Step
-step width p (push d a r c dup b) = push_plain width p d a r c dup b
-step width p (release now) = release_plain p now
-step width p drain = drain_plain p
-step width p next_due = next_due_plain p
-step width p len = step_to (holds (length p.held)) p
-step width p is_empty = step_to (tells (eqb (length p.held) 0)) p
+unfoldable pub step : Plain → Call → Step
+step p (push d a r c dup b) = push_plain p d a r c dup b
+step p (release now) = release_plain p now
+step p drain = drain_plain p
+step p next_due = next_due_plain p
+step p len = step_to (holds (length p.held)) p
+step p is_empty = step_to (tells (eqb (length p.held) 0)) p
 -- the memory that was lent has room
-step width p has_memory = step_to (tells true) p
+step p has_memory = step_to (tells true) p
 
 -- the replies to a list of calls, each on what the last one left
-unfoldable pub run : ℕ → Plain → List Call → List Reply
-run width p [] = []
-run width p (c ∷ cs) = (step width p c).reply ∷ run width (step width p c).then cs
+unfoldable pub run : Plain → List Call → List Reply
+run p [] = []
+run p (c ∷ cs) = (step p c).reply ∷ run (step p c).then cs

@@ -1,5 +1,5 @@
 -- Small runs of the plain queue, worked out: what a reader can check by hand.
-use Rattle.std.specs.Prelude.{◌≡◌, refl, true, false, List, [], ◌∷◌, ℕ, pos, Float}
+use Rattle.std.specs.Prelude.{◌≡◌, refl, true, false, List, [], ◌∷◌, ℕ, pos, replicate, Float}
 use Rattle.std.specs.Float.{inf, fin}
 use Rattle.std.specs.Float.Ieee.{lt, le, is_nan, of_int}
 use Rattle.numbers.specs.Checks.{first_failing}
@@ -7,7 +7,6 @@ use Rattle.numbers.specs.Instant.{is_instant_of}
 use Rattle.numbers.specs.Limits.{max_exact, is_counter_of}
 use Rattle.numbers.specs.Whole.{whole}
 use Rattle.held.specs.Order.{before_of}
-use Rattle.queue.specs.Refusals.{slot_width}
 use Rattle.held.specs.Copies.{copy, least, without, due_by, least_in, leaving}
 use Rattle.queue_laws.specs.Held.{Call, push, release, drain, Reply, entered, released, none_due, drained, refused, plain, second_plain, push_plain, hand_out, release_plain, drain_plain, step, run}
 
@@ -22,8 +21,13 @@ twice due = push due (whole 0) 7 0 true []
 abbrev out : Float → ℕ → Reply
 out due seq = released (copy due seq (whole 0) 7 0 0 [])
 
+-- the same as `at`, with these bytes
+abbrev filled : List ℕ → Call
+filled bytes = push (whole 5) (whole 0) 7 0 false bytes
+
+-- of a queue of that capacity and of slots of 64 bytes
 abbrev replies : ℕ → List Call → List Reply
-replies cap cs = run slot_width (plain cap [] 0) cs
+replies cap cs = run (plain cap 64 [] 0) cs
 
 pub record QueueLines : Type 0 where
   -- a full queue refuses and uses no seq, and what a copy left is used again
@@ -36,7 +40,9 @@ pub record QueueLines : Type 0 where
   pub due : replies 2 (at (whole 9) ∷ at (whole 8) ∷ release (whole 7) ∷ release (whole 8) ∷ release (whole 8) ∷ []) ≡ (entered 0 1 ∷ entered 1 1 ∷ none_due ∷ out (whole 8) 1 ∷ none_due ∷ [])
   -- an infinite due waits until all are torn down
   pub infinite : replies 2 (at (inf false) ∷ at (whole 1) ∷ release (whole max_exact) ∷ release (whole max_exact) ∷ drain ∷ []) ≡ (entered 0 1 ∷ entered 1 1 ∷ out (whole 1) 1 ∷ none_due ∷ drained 1 ∷ [])
+  -- as many bytes as a slot has enter, and one more is refused
+  pub widest : replies 2 (filled (replicate 64 7) ∷ filled (replicate 65 7) ∷ []) ≡ (entered 0 1 ∷ refused 22 ∷ [])
 
 pub queue_lines : QueueLines
 unfolding run step first_failing push_plain second_plain release_plain hand_out drain_plain leaving least_in due_by least without before_of is_instant_of is_counter_of lt le is_nan of_int
-queue_lines = record { full = refl; both = refl; tie = refl; due = refl; infinite = refl }
+queue_lines = record { full = refl; both = refl; tie = refl; due = refl; infinite = refl; widest = refl }

@@ -45,24 +45,24 @@ said r q t = record { reply = r; queue = q; tables = t }
 abbrev pub said_by_push : After (Handed Entered) → Said
 said_by_push o = said (said_of_push o.gives.1) o.gives.0 o.memory
 
--- a released copy is read with the store that the call leaves
-abbrev pub said_by_release : ℕ → After (Handed (Option Queued)) → Said
-said_by_release width o = said (said_of_release width o.memory.store o.gives.1) o.gives.0 o.memory
+-- a released copy is read with the width and the store that the call leaves
+abbrev pub said_by_release : After (Handed (Option Queued)) → Said
+said_by_release o = said (said_of_release o.gives.0.width o.memory.store o.gives.1) o.gives.0 o.memory
 
 abbrev pub said_by_drain : Tables → Handed ℕ → Said
 said_by_drain t o = said (said_of_drain o.1) o.0 t
 
 -- a call of crates/queue
-unfoldable pub answer_to : ℕ → ImpairQueue → Tables → Call → Said
-answer_to width q t (push d a r c dup b) = said_by_push (push_of width q t d a r c dup b)
-answer_to width q t (release now) = said_by_release width (release_of width q t now)
-answer_to width q t drain = said_by_drain t (drain_of q)
-answer_to width q t next_due = said (said_of_due (next_due_of q t.win t.dues)) q t
-answer_to width q t len = said (holds (len_of q)) q t
-answer_to width q t is_empty = said (tells (is_empty_of q)) q t
-answer_to width q t has_memory = said (tells (memory_of width q.cap t)) q t
+unfoldable pub answer_to : ImpairQueue → Tables → Call → Said
+answer_to q t (push d a r c dup b) = said_by_push (push_of q t d a r c dup b)
+answer_to q t (release now) = said_by_release (release_of q t now)
+answer_to q t drain = said_by_drain t (drain_of q)
+answer_to q t next_due = said (said_of_due (next_due_of q t.win t.dues)) q t
+answer_to q t len = said (holds (len_of q)) q t
+answer_to q t is_empty = said (tells (is_empty_of q)) q t
+answer_to q t has_memory = said (tells (memory_of q.width q.cap t)) q t
 
 -- a list of calls, each on what the last one left
-unfoldable pub answers_to : ℕ → ImpairQueue → Tables → List Call → List Reply
-answers_to width q t [] = []
-answers_to width q t (c ∷ cs) = (answer_to width q t c).reply ∷ answers_to width (answer_to width q t c).queue (answer_to width q t c).tables cs
+unfoldable pub answers_to : ImpairQueue → Tables → List Call → List Reply
+answers_to q t [] = []
+answers_to q t (c ∷ cs) = (answer_to q t c).reply ∷ answers_to (answer_to q t c).queue (answer_to q t c).tables cs

@@ -49,12 +49,12 @@ use Rattle.queue_laws.specs.Replies.{said_of_push, said_of_drain, said_of_due}
 
 -- ---- calls: `Learnt` is what the function's contract ensures of its arguments, its result and the tables at exit
 
--- a call of `create` with the capacity cap, over the tables t, returned r
-pub data Creates (cap : ℕ) (t : Tables) : Handed (Unit {0}) → Type 1 where
+-- a call of `create` with the capacity cap and the slot width, over the tables t, returned r
+pub data Creates (cap width : ℕ) (t : Tables) : Handed (Unit {0}) → Type 1 where
   called : (κs : Lifetimes.Lfts 3) (a : World.ArgsD create_fn.signature κs) (r : World.ResD create_fn.signature κs) (s : Clauses.AtExit (Kinds'.ended_of 3 create_kinds.ps create_kinds.r) κs)
-      → a.0 ≡ cap → seen_tables a.1.0 a.1.1.0.now a.1.1.1.0 ≡ t
+      → a.0 ≡ cap → a.1.0 ≡ width → seen_tables a.1.1.0 a.1.1.1.0.now a.1.1.1.1.0 ≡ t
       → create.Learnt κs a r s
-      → Creates cap t r
+      → Creates cap width t r
 
 -- a call of `push` on the state q and the tables t, with what is pushed, returned r and left tables; the free slots are only read
 pub data Pushes (q : ImpairQueue) (t : Tables) (due arrival : Float) (route id : ℕ) (duplicated : Bool) (bytes : List ℕ) : Handed Entered → Tables → Type 1 where
@@ -108,19 +108,19 @@ pub data AsksMemory (q : ImpairQueue) (t : Tables) : Bool → Type 1 where
       → has_memory_lem.Learnt κs a r s
       → AsksMemory q t r
 
--- a call of `payload` on a store, with a slot and a length, returned bytes
-pub data Reads (store : List ℕ) (slot len : ℕ) : List ℕ → Type 1 where
+-- a call of `payload` on a store of slots of that width, with a slot and a length, returned bytes
+pub data Reads (store : List ℕ) (width slot len : ℕ) : List ℕ → Type 1 where
   called : (κs : Lifetimes.Lfts 1) (a : World.ArgsD payload_fn.signature κs) (r : World.ResD payload_fn.signature κs) (s : Clauses.AtExit (Kinds'.ended_of 1 payload_kinds.ps payload_kinds.r) κs)
-      → a.0.now ≡ store → a.1.0 ≡ slot → a.1.1.0 ≡ len
+      → a.0.now ≡ store → a.1.0 ≡ width → a.1.1.0 ≡ slot → a.1.1.1.0 ≡ len
       → payload.Learnt κs a r s
-      → Reads store slot len r.now
+      → Reads store width slot len r.now
 
--- what an answer of `release` says, with the bytes that `payload` reads in the store that is left
-pub data Says (store : List ℕ) : Result (Option Queued) Refusal → Reply → Type 1 where
-  hands_out : {c : Queued} {bytes : List ℕ} → Reads store c.slot c.length bytes
-      → Says store (Ok (Some c)) (released (copy c.due_ms c.seq c.arrival_ms c.route c.copy_id c.length bytes))
-  none : Says store (Ok None) none_due
-  refuses : {e : Refusal} → Says store (Err e) (refused (number_of e))
+-- what an answer of `release` says, with the bytes that `payload` reads in the store that is left, by the width of the state that is handed back
+pub data Says (width : ℕ) (store : List ℕ) : Result (Option Queued) Refusal → Reply → Type 1 where
+  hands_out : {c : Queued} {bytes : List ℕ} → Reads store width c.slot c.length bytes
+      → Says width store (Ok (Some c)) (released (copy c.due_ms c.seq c.arrival_ms c.route c.copy_id c.length bytes))
+  none : Says width store (Ok None) none_due
+  refuses : {e : Refusal} → Says width store (Err e) (refused (number_of e))
 
 -- a run of the functions over a list of calls, with its replies: each call begins with what the last one left
 pub data Ran : ImpairQueue → Tables → List Call → List Reply → Type 1 where
@@ -129,7 +129,7 @@ pub data Ran : ImpairQueue → Tables → List Call → List Reply → Type 1 wh
       → Pushes q t due arrival route id duplicated bytes r t' → Ran r.0 t' cs rs
       → Ran q t (push_call due arrival route id duplicated bytes ∷ cs) (said_of_push r.1 ∷ rs)
   releases : {q : ImpairQueue} {t t' : Tables} {instant : Float} {r : Handed (Option Queued)} {reply : Reply} {cs : List Call} {rs : List Reply}
-      → Releases q t instant r t' → Says t'.store r.1 reply → Ran r.0 t' cs rs
+      → Releases q t instant r t' → Says r.0.width t'.store r.1 reply → Ran r.0 t' cs rs
       → Ran q t (release_call instant ∷ cs) (reply ∷ rs)
   drains : {q : ImpairQueue} {t : Tables} {r : Handed ℕ} {cs : List Call} {rs : List Reply}
       → Drains q r → Ran r.0 t cs rs

@@ -1,5 +1,5 @@
 // The call that a line asks for.
-use queue::Packet;
+use queue::{DEFAULT_WIDTH, Packet};
 use queue_calls::Call;
 use script::words::Words;
 use script::{lines, payload};
@@ -11,7 +11,7 @@ pub fn call_of<'a>(line: &[u8], room: &'a mut [u8]) -> Option<Call<'a>> {
     }
     let mut words = Words::new(line);
     let call = match words.next()? {
-        b"queue" => Call::Create(words.size()?),
+        b"queue" => creation(&mut words)?,
         b"push" => push(&mut words, room)?,
         b"release" => Call::Release(words.float()?),
         b"due" => Call::NextDue,
@@ -20,6 +20,14 @@ pub fn call_of<'a>(line: &[u8], room: &'a mut [u8]) -> Option<Call<'a>> {
         _ => return None,
     };
     words.is_empty().then_some(call)
+}
+
+// A capacity and a slot width, which may be left out.
+fn creation(words: &mut Words<'_>) -> Option<Call<'static>> {
+    Some(Call::Create {
+        cap: words.size()?,
+        width: words.size_or(DEFAULT_WIDTH as usize)?,
+    })
 }
 
 // A due, an arrival, a route, a copy id, a length and a seed.

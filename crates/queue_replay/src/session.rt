@@ -6,13 +6,13 @@ use std::alloc::{AllocError, Global};
 use std::io;
 use std::io::Write;
 
-// How many copies there is room for, and how many bytes the store has for them.
+// How many copies there is room for, and how many bytes the store has for them: 2,048 for each.
 const COPIES: usize = 256;
 
 const STORE_BYTES: usize = 524288;
 
-// More bytes than a copy may have.
-const ROOM_BYTES: usize = 4096;
+// More bytes than a copy may have, so that one that is too long is lent as too long.
+const ROOM_BYTES: usize = 16384;
 
 // `room` is where the bytes of a copy that is to enter are made.
 #[derive(Drop)]
@@ -38,8 +38,7 @@ impl Session {
             return Ok(false);
         };
         let answer = call.make(&mut self.queue, &mut self.memory.lent());
-        let store = self.memory.store.as_slice();
-        output::say(out, answer.map(|answer| Told { answer, store }))?;
+        output::say(out, Told::of(answer, &self.memory.store, self.queue.width))?;
         Ok(true)
     }
 }

@@ -2,10 +2,11 @@
 use draws::Rng;
 use queue::Packet;
 
-// A copy; all but its due follows from the seed.
+// A copy; all but its due and its number of bytes follows from the seed.
 #[derive(Clone, Copy, Debug, PartialEq)]
 pub struct Seeded {
     pub due_ms: f64,
+    pub length: u64,
     pub seed: u64,
 }
 
@@ -19,16 +20,18 @@ pub enum Drawn {
     Drain,
 }
 
-// What the calls are drawn from.
+// What the calls are drawn from, and the most bytes that a copy has.
 #[derive(Clone, Copy)]
 pub struct Source {
     rng: Rng,
+    width: u16,
 }
 
 impl Source {
-    pub fn new(seed: u64) -> Self {
+    pub fn new(seed: u64, width: u16) -> Self {
         Source {
             rng: Rng::new(seed),
+            width,
         }
     }
 
@@ -46,6 +49,7 @@ impl Source {
         match kind {
             _ if kind < pushes_at(turn) => Drawn::Push(Seeded {
                 due_ms: due_of(time),
+                length: length_of(draws::mix(seed, 4), self.width),
                 seed,
             }),
             0..=899 => Drawn::Release(instant_of(time)),
@@ -76,6 +80,18 @@ fn due_of(n: u64) -> f64 {
     }
 }
 
+// How many bytes a copy has, at most so many: most have few, since they are made one by one.
+fn length_of(n: u64, width: u16) -> u64 {
+    let width = width as u64;
+    match n % 16 {
+        0 => 0,
+        1 => width.saturating_sub(1),
+        2 => width,
+        3 => n / 16 % (width + 1),
+        _ => n / 16 % 64,
+    }
+}
+
 // An instant from 0 to 17.5, or seldom the last one.
 fn instant_of(n: u64) -> f64 {
     match n % 64 {
@@ -86,27 +102,13 @@ fn instant_of(n: u64) -> f64 {
 
 impl From<Seeded> for Packet {
     fn from(copy: Seeded) -> Packet {
-        let Seeded { due_ms, seed } = copy;
+        let Seeded { due_ms, seed, .. } = copy;
         Packet {
             due_ms,
             arrival_ms: numbers::float_of(draws::mix(seed, 1) % 1000) * 0.25,
             route: draws::mix(seed, 2),
             copy_id: (draws::mix(seed, 3) % 0x1_0000_0000) as u32,
             duplicated: false,
-        }
-    }
-}
-
-impl Seeded {
-    // How many bytes the copy has: most have few, since they are made one by one.
-    pub fn length(self) -> u64 {
-        let n = draws::mix(self.seed, 4);
-        match n % 16 {
-            0 => 0,
-            1 => 2047,
-            2 => 2048,
-            3 => n / 16 % 2049,
-            _ => n / 16 % 64,
         }
     }
 }

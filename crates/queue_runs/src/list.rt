@@ -14,22 +14,24 @@ struct Held {
     seq: u64,
 }
 
-// The store has the bytes of the copy that left last.
+// The store has the bytes of the copy that left last, in one slot of that width.
 #[derive(Drop)]
 pub struct List {
     cap: usize,
     next_seq: u64,
     held: Vec<Held>,
+    pub width: u32,
     pub store: Vec<u8>,
 }
 
 impl List {
-    pub fn new(alloc: Global, cap: usize) -> Result<Self, AllocError> {
+    pub fn new(alloc: Global, cap: usize, width: u16) -> Result<Self, AllocError> {
         Ok(List {
             cap,
             next_seq: 0,
             held: Vec::new(alloc),
-            store: vec![in alloc; 0; 2048]?,
+            width: width as u32,
+            store: vec![in alloc; 0; width as usize]?,
         })
     }
 
@@ -63,7 +65,7 @@ impl List {
             return None;
         }
         self.held.retain(|held| held.seq != least.seq);
-        let bytes = payload::front(&mut self.store, least.copy.length());
+        let bytes = payload::front(&mut self.store, least.copy.length);
         payload::fill(bytes, least.copy.seed);
         Some(Queued::from(least))
     }
@@ -97,7 +99,7 @@ impl From<Held> for Queued {
             arrival_ms: packet.arrival_ms,
             route: packet.route,
             copy_id: packet.copy_id,
-            length: held.copy.length() as usize,
+            length: held.copy.length as usize,
             slot: 0,
         }
     }

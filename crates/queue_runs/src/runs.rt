@@ -8,20 +8,22 @@ use queue_calls::{Answer, Call, Memory, Tally, Told};
 use script::payload;
 use std::alloc::{AllocError, Global};
 
-// Makes 20,000 calls over memory for 64 copies.
-pub fn compared(alloc: Global, cap: usize) -> Result<Tally, AllocError> {
-    let mut memory = Memory::new(alloc, 64, 64 * 2048)?;
-    let mut bytes = vec![in alloc; 0; 2048]?;
+// Makes 20,000 calls over memory for 64 copies of `width` bytes.
+pub fn compared(alloc: Global, cap: usize, width: u16) -> Result<Tally, AllocError> {
+    let slot = width as usize;
+    let mut memory = Memory::new(alloc, 64, 64 * slot)?;
+    let mut bytes = vec![in alloc; 0; slot]?;
     let mut queue = ImpairQueue::smallest();
-    let _ = Call::Create(cap).make(&mut queue, &mut memory.lent());
-    let mut list = List::new(alloc, cap)?;
-    let mut source = Source::new(cap as u64);
+    let _ = Call::Create { cap, width: slot }.make(&mut queue, &mut memory.lent());
+    let mut list = List::new(alloc, cap, width)?;
+    let mut source = Source::new(cap as u64, width);
     let mut tally = Tally::new(alloc);
     for turn in 0..20000 {
         let drawn = source.call(turn);
         let answer = call_of(drawn, &mut bytes).make(&mut queue, &mut memory.lent());
         let wanted = list.make(drawn)?;
-        let is_same = words(alloc, answer, &memory.store)? == words(alloc, wanted, &list.store)?;
+        let told = words(alloc, answer, &memory.store, queue.width)?;
+        let is_same = told == words(alloc, wanted, &list.store, list.width)?;
         tally.add(answer, is_same)?;
     }
     Ok(tally)
@@ -31,7 +33,7 @@ pub fn compared(alloc: Global, cap: usize) -> Result<Tally, AllocError> {
 fn call_of(drawn: Drawn, bytes: &mut [u8]) -> Call<'_> {
     match drawn {
         Drawn::Push(copy) => {
-            let filled = payload::fill(payload::front(bytes, copy.length()), copy.seed);
+            let filled = payload::fill(payload::front(bytes, copy.length), copy.seed);
             Call::Push(copy.into(), filled)
         }
         Drawn::Release(now_ms) => Call::Release(now_ms),
@@ -41,13 +43,13 @@ fn call_of(drawn: Drawn, bytes: &mut [u8]) -> Call<'_> {
     }
 }
 
-// An answer in words, as which answers are compared. Not by a derived `==`: the slot of a copy that left is not to count and the sum of its bytes is, and 0 and -0
-// are apart.
+// An answer in words, as which answers are compared. Not by a derived `==`: the slot of a copy that left is not to count and the sum of its bytes is, and 0 and
+// -0 are apart.
 fn words(
     alloc: Global,
     answer: Result<Answer, Refusal>,
     store: &[u8],
+    width: u32,
 ) -> Result<String, AllocError> {
-    let told = answer.map(|answer| Told { answer, store });
-    format!(in alloc; "{}", Answered(told))
+    format!(in alloc; "{}", Answered(Told::of(answer, store, width)))
 }

@@ -1,4 +1,5 @@
 // The calls of a script.
+use device::DEFAULT_WIDTH;
 use engine_words::Direction;
 use script::words::Words;
 use std::alloc::{AllocError, Global};
@@ -19,6 +20,7 @@ pub enum Call {
         direction: Direction,
         salt: u64,
         cap: usize,
+        width: usize,
     },
     Arrive {
         now_ms: f64,
@@ -60,12 +62,13 @@ fn of_words(line: &[u8]) -> Option<Call> {
     words.is_empty().then_some(call)
 }
 
-// A direction, a salt and a capacity.
+// A direction, a salt, a capacity and a slot width, which may be left out.
 fn creation(words: &mut Words<'_>) -> Option<Call> {
     Some(Call::Create {
         direction: Direction::of(words.next()?)?,
         salt: words.whole()?,
         cap: words.size()?,
+        width: words.size_or(DEFAULT_WIDTH as usize)?,
     })
 }
 

@@ -1,7 +1,7 @@
 // The device that a script calls.
 use crate::calls::{Call, Packet};
 use crate::report::Reported;
-use device::{Arrived, Device};
+use device::{Arrived, DEFAULT_WIDTH, Device};
 use device_words::{Happened, Torn, lent};
 use engine_words::{Direction, Flagged};
 use numbers::Refusal;
@@ -15,13 +15,13 @@ use std::alloc::{AllocError, Global};
 use std::io;
 use std::io::Write;
 
-// How many copies there is room for, and how many bytes the store has for them.
+// How many copies there is room for, and how many bytes the store has for them: 2,048 for each.
 const COPIES: usize = 1024;
 
 const STORE_BYTES: usize = 2097152;
 
 // More bytes than a packet may have, so that one that is too long is lent as too long.
-const ROOM_BYTES: usize = 4096;
+const ROOM_BYTES: usize = 16384;
 
 // The settings of the last option text, the default ones where it was refused, the last device and its memory; the bytes of a packet that arrives are made in
 // `room`.
@@ -39,7 +39,8 @@ impl Session {
         let config = Config::default();
         let mut memory = Memory::new(alloc, COPIES, STORE_BYTES)?;
         let room = vec![in alloc; 0; ROOM_BYTES]?;
-        let (device, _) = lent::create(&mut memory.lent(), config.c2s, 0, 0, 0);
+        let width = DEFAULT_WIDTH as usize;
+        let (device, _) = lent::create(&mut memory.lent(), config.c2s, 0, 0, 0, width);
         Ok(Session {
             config,
             device,
@@ -56,7 +57,11 @@ impl Session {
                 direction,
                 salt,
                 cap,
-            } => say(out, self.create(direction, salt, cap).map(|()| "created")),
+                width,
+            } => {
+                let created = self.create(direction, salt, cap, width);
+                say(out, created.map(|()| "created"))
+            }
             Call::Arrive { now_ms, packet } => say(out, self.arrive(now_ms, packet).map(Happened)),
             Call::Release { now_ms } => self.say_release(out, now_ms),
             Call::Rebind { now_ms } => say(
@@ -77,16 +82,22 @@ impl Session {
     // Of a copy that left also the sum of its bytes is said, which lie in the store.
     fn say_release<W: Write>(&mut self, out: &mut W, now_ms: f64) -> io::Result<()> {
         let released = self.release(now_ms).map(Answer::Released);
-        let store = self.memory.store.as_slice();
-        say(out, released.map(|answer| Told { answer, store }))
+        let width = self.device.queue.width;
+        say(out, Told::of(released, &self.memory.store, width))
     }
 
     // A new device of the settings that the last option text has for the direction.
-    fn create(&mut self, direction: Direction, salt: u64, cap: usize) -> Result<(), Refusal> {
+    fn create(
+        &mut self,
+        direction: Direction,
+        salt: u64,
+        cap: usize,
+        width: usize,
+    ) -> Result<(), Refusal> {
         let settings = direction.settings(&self.config);
         let seed = self.config.seed;
         let lent = &mut self.memory.lent();
-        let created = lent::create(lent, settings, seed, salt, cap);
+        let created = lent::create(lent, settings, seed, salt, cap, width);
         self.keep(created)
     }
 

@@ -52,6 +52,17 @@ impl<'a> Words<'a> {
         usize::try_from(self.whole()?).ok()
     }
 
+    // The next word as a number that a length can be, and `other` where no word is left.
+    pub fn size_or(&mut self, other: usize) -> Option<usize>
+        ensures { result ≡ (if is_none self.old.left then Some other else option_and_then (λ left. whole_of (first_word_of left.now)) self.old.left) }
+    {
+        if self.is_empty() {
+            Some(other)
+        } else {
+            self.size()
+        }
+    }
+
     // The next word as the bits of a float.
     pub fn float(&mut self) -> Option<f64>
         ensures { result ≡ option_and_then (λ left. option_map (from_bits binary64) (pattern_of (first_word_of left.now))) self.old.left }

@@ -17,6 +17,7 @@ use Rattle.draws.specs.declared.rng.Rng.{Rng}
 use Rattle.draws.proofs.Fraction.{draw_plus}
 use Rattle.values.specs.Whole.{is_bounded}
 use Rattle.settings.specs.Judgement.{is_time}
+use Rattle.numbers.specs.Limits.{max_length}
 use Rattle.judgement.specs.Scalars.{is_rate}
 use Rattle.steps.specs.declared.arrival.Arrival.{Arrival}
 use Rattle.steps.specs.declared.arrival.ArrivalState.{ArrivalState}
@@ -31,7 +32,7 @@ use Rattle.steps.specs.Mtu.{exceeds_of}
 use Rattle.steps.specs.Bucket.{last_refill_of}
 use Rattle.steps.specs.Due.{jittered_of, reordered_of, waited_of, owed_of}
 use Rattle.steps.specs.Arrival.{stopped_of, drawn_of, scheduled_of, from_mtu, from_ge, passed_of, arrived_of}
-use Rattle.steps.specs.Laws.Credit.{longest_planned, charged_credit, wait_clear}
+use Rattle.steps.specs.Laws.Credit.{charged_credit, wait_clear}
 
 -- what refusal 29 lets through of the settings that times, rate and burst are
 pub record SoundScalars (c : DirectionConfig) : Type 0 where
@@ -126,7 +127,7 @@ module _ {now : Float} (fit : T (fits binary64 now)) (bounded : Bounded now) whe
 
   -- ---- the chain
 
-  module _ (c : DirectionConfig) (len : ℕ) (sound : SoundScalars c) (short : len ≤ longest_planned) where
+  module _ (c : DirectionConfig) (len : ℕ) (sound : SoundScalars c) (short : len ≤ max_length) where
     scheduled_sound : (s : ArrivalState) → SoundState s → Sound now (scheduled_of c s now len)
     unfolding scheduled_of
     scheduled_sound s h =
@@ -161,7 +162,7 @@ module _ {now : Float} (fit : T (fits binary64 now)) (bounded : Bounded now) whe
         let after = drawn_sound s loss.0 s.ge_bad h in
         cond_has (Sound now) loss.1 (after, tt) (ge_sound _ after)
 
-pub arrived_sound : (g : Gate) (c : DirectionConfig) (s : ArrivalState) (now : Float) (len : ℕ) → SoundScalars c → SoundState s → T (fits binary64 now) → Bounded now → len ≤ longest_planned
+pub arrived_sound : (g : Gate) (c : DirectionConfig) (s : ArrivalState) (now : Float) (len : ℕ) → SoundScalars c → SoundState s → T (fits binary64 now) → Bounded now → len ≤ max_length
     → SoundState (arrived_of g c s now len).state × DueFrom now (arrived_of g c s now len).decision
 unfolding arrived_of stopped_of
 arrived_sound Open c s now len sound h fit bounded short = passed_sound fit bounded c len sound short s h

@@ -37,6 +37,7 @@ fn main(rt: HostRuntime) -> io::Result<()> {
     oracle_accounts::full_records(&mut out)?;
     oracle_accounts::totals(&mut out)?;
     oracle_accounts::long_runs(&mut out)?;
+    oracle_accounts::wide_packets(&mut out)?;
     oracle_windows::windows(&mut out)?;
     out.flush()
 }

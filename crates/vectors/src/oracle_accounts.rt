@@ -97,6 +97,14 @@ pub fn long_runs<W: Write>(out: &mut W) -> io::Result<()> {
     Ok(())
 }
 
+// Packets that are longer than 2,048 bytes.
+pub fn wide_packets<W: Write>(out: &mut W) -> io::Result<()> {
+    for len in [2049, 9215, 9216] {
+        send(out, &mut samples::full_sends(), len, 0.5)?;
+    }
+    Ok(())
+}
+
 // Sends a packet, and prints the accountant.
 fn send<W: Write>(
     out: &mut W,

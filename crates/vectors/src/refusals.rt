@@ -6,11 +6,13 @@ use output::Answered;
 use std::io;
 use std::io::Write;
 
-// Packets of the longest length and of one byte more; the length is judged before the counters.
+// Packets around the default slot width, which is no limit here, then of the longest length and of one byte more; the length is judged before the counters.
 pub fn lengths<W: Write>(out: &mut W) -> io::Result<()> {
     send(out, "len=2048", sent(0), 2048)?;
     send(out, "len=2049", sent(0), 2049)?;
-    send(out, "len=2049 sent_pkts=2^60", sent(COUNTER_LIMIT), 2049)
+    send(out, "len=9216", sent(0), 9216)?;
+    send(out, "len=9217", sent(0), 9217)?;
+    send(out, "len=9217 sent_pkts=2^60", sent(COUNTER_LIMIT), 9217)
 }
 
 // Counters of the accountant: the greatest that is taken, and the least that is refused.

@@ -5,7 +5,7 @@ use Rattle.std.proofs.Common.{arith, leb-true}
 use Rattle.numbers.specs.Laws.Both.{both_true}
 use Rattle.numbers.specs.Laws.Checks.{none_refused, unless_has, unless_when}
 use Rattle.numbers.specs.Laws.NotNan.{cond_when, cond_has}
-use Rattle.numbers.specs.Limits.{max_capacity, is_counter_of}
+use Rattle.numbers.specs.Limits.{max_capacity, is_width_of, is_counter_of}
 use Rattle.numbers.specs.Refusals.{number_of, refused_full}
 use Rattle.numbers.specs.declared.refusal.Refusal.{Refusal}
 use Rattle.queue.specs.Calls.{Handed, AfterCopy, enter_copy_of, told_by, told, again_of, second_of, enter_copies_of, push_of, drain_of}
@@ -51,14 +51,14 @@ two_asked true true room h = omega arith
 two_asked true false room h = absurd h
 two_asked false duplicated room h = absurd h
 
-pub push_within : (width : ℕ) (q : ImpairQueue) (t : Tables) (due arrival : Float) (route id : ℕ) (duplicated : Bool) (bytes : List ℕ)
-    → Within duplicated (push_of width q t due arrival route id duplicated bytes).gives
+pub push_within : (q : ImpairQueue) (t : Tables) (due arrival : Float) (route id : ℕ) (duplicated : Bool) (bytes : List ℕ)
+    → Within duplicated (push_of q t due arrival route id duplicated bytes).gives
 unfolding push_of enter_copies_of second_of copies_in
-push_within width q t due arrival route id duplicated bytes =
-    let one = enter_copy_of width q t due arrival route id bytes in
-    unless_has (λ (o : After (Handed Entered)). Within duplicated o.gives) (push_refusal width q (memory_of width q.cap t) due arrival (length bytes))
+push_within q t due arrival route id duplicated bytes =
+    let one = enter_copy_of q t due arrival route id bytes in
+    unless_has (λ (o : After (Handed Entered)). Within duplicated o.gives) (push_refusal q (memory_of q.width q.cap t) due arrival (length bytes))
     (cond_when (λ (o : After (Handed Entered)). Within duplicated o.gives) (again_of duplicated one.gives)
-    (λ h. told_within duplicated q.next_seq 2 (enter_copy_of width one.gives.0 one.memory due arrival route 1 bytes) (two_asked (is_ok one.gives.1) duplicated (not (eqb one.gives.0.held one.gives.0.cap)) h))
+    (λ h. told_within duplicated q.next_seq 2 (enter_copy_of one.gives.0 one.memory due arrival route 1 bytes) (two_asked (is_ok one.gives.1) duplicated (not (eqb one.gives.0.held one.gives.0.cap)) h))
     (told_within duplicated q.next_seq 1 one (one_asked duplicated)))
     (λ e. omega arith)
 
@@ -70,18 +70,19 @@ tallied_bounds (Err e) asked h small =
     (record { entered_within = omega arith; overflowed_within = small; torn_within = omega arith; resets_within = omega arith })
     tt
 
-copies_bounds : (width : ℕ) (q : ImpairQueue) (t : Tables) (duplicated : Bool) (due now : Float) (route : ℕ) (bytes : List ℕ) → BoundsOn (copies_of width q t duplicated due now route bytes).gives.1
+copies_bounds : (q : ImpairQueue) (t : Tables) (duplicated : Bool) (due now : Float) (route : ℕ) (bytes : List ℕ) → BoundsOn (copies_of q t duplicated due now route bytes).gives.1
 unfolding copies_of
-copies_bounds width q t duplicated due now route bytes =
-    tallied_bounds (push_of width q t due now route 0 duplicated bytes).gives.1 (asked_of duplicated)
-    (push_within width q t due now route 0 duplicated bytes) (cond_has (λ (n : ℕ). n ≤ 2) duplicated (omega arith) (omega arith))
+copies_bounds q t duplicated due now route bytes =
+    tallied_bounds (push_of q t due now route 0 duplicated bytes).gives.1 (asked_of duplicated)
+    (push_within q t due now route 0 duplicated bytes) (cond_has (λ (n : ℕ). n ≤ 2) duplicated (omega arith) (omega arith))
 
 -- ---- a reset
 
 keeping_within : (q : ImpairQueue) → in_keeping q ≡ true → q.held ≤ max_capacity
 unfolding in_keeping
 keeping_within q keeping =
-    let held = both_true _ (leb q.held q.opened) keeping in
+    let width = both_true _ (is_width_of q.width) keeping in
+    let held = both_true _ (leb q.held q.opened) width.0 in
     let opened = both_true _ (leb q.opened q.leaves) held.0 in
     let leaves = both_true (leb q.cap max_capacity) (leb q.leaves q.cap) opened.0 in
     omega (arith, leb-true q.held q.opened held.1, leb-true q.opened q.leaves opened.1, leb-true q.leaves q.cap leaves.1, leb-true q.cap max_capacity leaves.0)
@@ -105,12 +106,12 @@ torn_bounds q =
 untouched_bounds : (q : ImpairQueue) → BoundsOn (untouched q).1
 untouched_bounds q = record { entered_within = omega arith; overflowed_within = omega arith; torn_within = omega arith; resets_within = omega arith }
 
-pub follow_bounds : (width : ℕ) (q : ImpairQueue) (t : Tables) (d : Decision) (now : Float) (route : ℕ) (bytes : List ℕ) → BoundsOn (follow_of width q t d now route bytes).gives.1
+pub follow_bounds : (q : ImpairQueue) (t : Tables) (d : Decision) (now : Float) (route : ℕ) (bytes : List ℕ) → BoundsOn (follow_of q t d now route bytes).gives.1
 unfolding follow_of
-follow_bounds width q t DropRandom now route bytes = untouched_bounds q
-follow_bounds width q t DropGe now route bytes = untouched_bounds q
-follow_bounds width q t DropMtu now route bytes = untouched_bounds q
-follow_bounds width q t DropBlackout now route bytes = untouched_bounds q
-follow_bounds width q t DropKillHold now route bytes = untouched_bounds q
-follow_bounds width q t (Enqueue due duplicated) now route bytes = copies_bounds width q t duplicated due now route bytes
-follow_bounds width q t KillRst now route bytes = torn_bounds q
+follow_bounds q t DropRandom now route bytes = untouched_bounds q
+follow_bounds q t DropGe now route bytes = untouched_bounds q
+follow_bounds q t DropMtu now route bytes = untouched_bounds q
+follow_bounds q t DropBlackout now route bytes = untouched_bounds q
+follow_bounds q t DropKillHold now route bytes = untouched_bounds q
+follow_bounds q t (Enqueue due duplicated) now route bytes = copies_bounds q t duplicated due now route bytes
+follow_bounds q t KillRst now route bytes = torn_bounds q

@@ -1,11 +1,12 @@
 -- What it is for a call to agree with a step of the plain machine, and that every refused call does.
-use Rattle.std.specs.Prelude.{◌≡◌, Bool, [], ◌∷◌, length}
+use Rattle.std.specs.Prelude.{◌≡◌, Bool, [], ◌∷◌, ◌≤◌, length}
 use Rattle.std.proofs.Math.Path.{refl}
-use Rattle.std.proofs.Common.{sym, subst}
+use Rattle.std.proofs.Common.{sym, subst, arith}
 use Rattle.std.proofs.Math.Bool.{true, false}
 use Rattle.numbers.specs.Checks.{check, first_failing, first_refusal, unless as unless_met}
 use Rattle.numbers.specs.Laws.Both.{both_true}
-use Rattle.numbers.specs.Limits.{is_counter_of}
+use Rattle.numbers.specs.Laws.Limits.{width_within}
+use Rattle.numbers.specs.Limits.{max_length, is_counter_of}
 use Rattle.numbers.specs.Refusals.{number_of, refused_instant, refused_length, refused_counter}
 use Rattle.numbers.specs.declared.refusal.Refusal.{Refusal}
 use Rattle.numbers.specs.declared.refusal.Refusal.TheVariants as refusal
@@ -13,7 +14,6 @@ use Rattle.accounts.specs.Counters.{are_counters, accountant_counters}
 use Rattle.engine.specs.Laws.Sound.{SoundEngine}
 use Rattle.engine.specs.Refusals.{counters_pass}
 use Rattle.queue.specs.Calls.{drain_of}
-use Rattle.queue.specs.Refusals.{slot_width}
 use Rattle.queue.specs.Tables.{Tables}
 use Rattle.queue.specs.declared.queue.ImpairQueue.{ImpairQueue}
 use Rattle.queue_laws.specs.Held.{Plain, plain, step_to as queue_step_to, drained, drain_plain}
@@ -37,7 +37,7 @@ pub record Agrees (o : Said) (s : Step) : Type 0 where
 
 -- the plain queue of a machine
 abbrev pub queue_of : Machine → Plain
-queue_of m = plain m.cap m.held m.next_seq
+queue_of m = plain m.cap m.width m.held m.next_seq
 
 -- the device of a machine's parts and a queue
 abbrev pub device_of : Machine → ImpairQueue → Device
@@ -51,8 +51,12 @@ pub of_device : (P : Device → Type 0) (v : Device) (t : Tables) (m : Machine) 
 of_device P v t m k p = subst P (sym (is_device v t m k)) p
 
 -- that device matches the machine where the queue keeps its list
-pub parts_match : (m : Machine) (q : ImpairQueue) (t : Tables) → Keeps slot_width t q (queue_of m) → SoundEngine m.engine → AllShort m.held → Matches (device_of m q) t m
+pub parts_match : (m : Machine) (q : ImpairQueue) (t : Tables) → Keeps t q (queue_of m) → SoundEngine m.engine → AllShort m → Matches (device_of m q) t m
 parts_match m q t keeps sound short = record { engine = refl; accounts = refl; torn = refl; queue = keeps; sound = sound; short = short }
+
+-- a width that 30 lets through is at most the longest packet
+pub narrow : (t : Tables) (q : ImpairQueue) (p : Plain) → Keeps t q p → p.width ≤ max_length
+narrow t q p keeps = omega (arith, (width_within q.width keeps.wide).1, keeps.same_width)
 
 -- ---- refusals
 
@@ -96,10 +100,10 @@ module _ {A : Type 0} (P : A → Step → Type 0) (m : Machine) (done : A) (no :
 -- ---- drains
 
 -- where 25 lets the next seq through, the queue's drain tells how many were held
-drains : (p : Plain) → is_counter_of p.next_seq ≡ true → drain_plain p ≡ queue_step_to (drained (length p.held)) (plain p.cap [] p.next_seq)
+drains : (p : Plain) → is_counter_of p.next_seq ≡ true → drain_plain p ≡ queue_step_to (drained (length p.held)) (plain p.cap p.width [] p.next_seq)
 unfolding drain_plain first_failing
 drains p next = rw next
 
-pub drains_all : (m : Machine) (q : ImpairQueue) (t : Tables) → Keeps slot_width t q (queue_of m) → is_counter_of m.next_seq ≡ true
-    → Agree slot_width (said_by_drain t (drain_of q)) (queue_step_to (drained (length m.held)) (plain m.cap [] m.next_seq))
-drains_all m q t keeps next = subst (Agree slot_width (said_by_drain t (drain_of q))) (drains (queue_of m) next) (drain_agrees slot_width t q (queue_of m) keeps)
+pub drains_all : (m : Machine) (q : ImpairQueue) (t : Tables) → Keeps t q (queue_of m) → is_counter_of m.next_seq ≡ true
+    → Agree (said_by_drain t (drain_of q)) (queue_step_to (drained (length m.held)) (plain m.cap m.width [] m.next_seq))
+drains_all m q t keeps next = subst (Agree (said_by_drain t (drain_of q))) (drains (queue_of m) next) (drain_agrees t q (queue_of m) keeps)

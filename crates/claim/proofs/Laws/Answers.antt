@@ -1,7 +1,6 @@
 -- What each call of crates/device says and leaves, by the definitions, and a list of calls.
 use Rattle.std.specs.Prelude.{List, [], ◌∷◌, Option, Result}
 use Rattle.numbers.specs.declared.refusal.Refusal.{Refusal}
-use Rattle.queue.specs.Refusals.{slot_width}
 use Rattle.queue.specs.Tables.{Tables, After}
 use Rattle.queue.specs.declared.answers.Queued.{Queued}
 use Rattle.machine.specs.Calls as call
@@ -30,14 +29,14 @@ said_by says t h = said (says h.1) h.0 t
 abbrev pub said_by_arrive : After (Handed Arrived) → Said
 said_by_arrive o = said_by said_of_arrive o.memory o.gives
 
--- a released copy is read with the store that the call leaves
+-- a released copy is read with the width and the store that the call leaves
 abbrev pub said_by_release : After (Handed (Option Queued)) → Said
-said_by_release o = said_by (said_of_release slot_width o.memory.store) o.memory o.gives
+said_by_release o = said_by (said_of_release o.gives.0.queue.width o.memory.store) o.memory o.gives
 
 -- a call of crates/device; a report leaves the device as it is
 unfoldable pub answer_to : Device → Tables → Call → Said
-answer_to v t (call.arrive now bytes route) = said_by_arrive (arrive_of slot_width v t now bytes route)
-answer_to v t (call.release now) = said_by_release (release_of slot_width v t now)
+answer_to v t (call.arrive now bytes route) = said_by_arrive (arrive_of v t now bytes route)
+answer_to v t (call.release now) = said_by_release (release_of v t now)
 answer_to v t (call.rebind now) = said_by said_of_rebind t (rebind_of v now)
 answer_to v t call.teardown = said_by said_of_teardown t (teardown_of v)
 answer_to v t call.report = said (said_of_report (report_of v)) v t

@@ -11,7 +11,6 @@ use Rattle.options.specs.declared.config.DirectionConfig.{DirectionConfig}
 use Rattle.tournament.specs.declared.tree.Tree.{Tree}
 use Rattle.tournament.specs.declared.tree.TreeMut.{TreeMut}
 use Rattle.queue.specs.Calls.{payload_of}
-use Rattle.queue.specs.Refusals.{slot_width}
 use Rattle.queue.specs.Tables.{Tables, tables, after, Rows, rows_of}
 use Rattle.queue.specs.declared.answers.Queued.{Queued}
 use Rattle.queue.specs.declared.rows.Rows.{Rows as SeenRows}
@@ -57,10 +56,10 @@ lent_rows t = unique (record { arrivals = unique t.arrivals; routes = unique t.r
 pub parses_so : (text : List ℕ) → Parses text (parse_of text)
 parses_so text = Parses.called (lifetimes 1) (shared text, tt) (parse_of text) (shared text, tt) refl refl
 
-pub creates_so : (cfg : DirectionConfig) (seed salt cap : ℕ) (t : Tables) → Creates cfg seed salt cap t (create_of slot_width cfg seed salt cap t)
-creates_so cfg seed salt cap t =
-    Creates.called (lifetimes 3) (cfg, (seed, (salt, (cap, (seen_tree t, (shared t.free, (seen_rows t, tt))))))) (create_of slot_width cfg seed salt cap t)
-    (cfg, (seed, (salt, (cap, (seen_tree t, (shared t.free, (seen_rows t, tt))))))) refl refl refl refl refl refl
+pub creates_so : (cfg : DirectionConfig) (seed salt cap width : ℕ) (t : Tables) → Creates cfg seed salt cap width t (create_of cfg seed salt cap width t)
+creates_so cfg seed salt cap width t =
+    Creates.called (lifetimes 3) (cfg, (seed, (salt, (cap, (width, (seen_tree t, (shared t.free, (seen_rows t, tt)))))))) (create_of cfg seed salt cap width t)
+    (cfg, (seed, (salt, (cap, (width, (seen_tree t, (shared t.free, (seen_rows t, tt)))))))) refl refl refl refl refl refl refl
 
 -- the tables with this `free`, and with these rows
 abbrev with_free : Tables → List ℕ → Tables
@@ -70,18 +69,18 @@ abbrev with_rows : Tables → Rows → Tables
 with_rows t r = tables t.win t.free t.dues t.seqs r.arrivals r.routes r.copy_ids r.lengths r.store
 
 arrives_so : (v : Device) (t : Tables) (now : Float) (bytes : List ℕ) (route : ℕ) → T (fits binary64 now)
-    → let o = arrive_of slot_width v t now bytes route in Arrives v t now bytes route o.gives o.memory
+    → let o = arrive_of v t now bytes route in Arrives v t now bytes route o.gives o.memory
 arrives_so v t now bytes route fit =
-    let o = arrive_of slot_width v t now bytes route in
+    let o = arrive_of v t now bytes route in
     let same : with_free o.memory t.free ≡ o.memory = sym (ap (with_free o.memory) (arrive_free v t now bytes route)) in
     subst (Arrives v t now bytes route o.gives) same
     (Arrives.called (lifetimes 6) (v, (lent_tree t, (shared t.free, (lent_rows t, (now, (shared bytes, (route, tt))))))) o.gives
     (v, (lent_tree o.memory, (shared t.free, (lent_rows o.memory, (now, (shared bytes, (route, tt)))))))
     fit refl refl refl refl refl (ap (after o.gives) same, ((refl, refl, refl), (refl, refl, refl, refl, refl))))
 
-releases_so : (v : Device) (t : Tables) (now : Float) → let o = release_of slot_width v t now in Releases v t now o.gives o.memory
+releases_so : (v : Device) (t : Tables) (now : Float) → let o = release_of v t now in Releases v t now o.gives o.memory
 releases_so v t now =
-    let o = release_of slot_width v t now in
+    let o = release_of v t now in
     let same : with_rows o.memory (rows_of t) ≡ o.memory = sym (ap (with_rows o.memory) (release_rows v t now)) in
     subst (Releases v t now o.gives) same
     (Releases.called (lifetimes 4) (v, (lent_tree t, (unique t.free, (seen_rows t, (now, tt))))) o.gives
@@ -96,18 +95,18 @@ tears_so v = TearsDown.called tt (v, tt) (teardown_of v) (v, tt) refl refl
 reports_so : (v : Device) → Reports v (report_of v)
 reports_so v = Reports.called (lifetimes 1) (shared v, tt) (report_of v) (shared v, tt) refl refl
 
-reads_so : (store : List ℕ) (slot len : ℕ) → Reads store slot len (payload_of slot_width store slot len)
-reads_so store slot len = Reads.called (lifetimes 1) (shared store, (slot, (len, tt))) (shared (payload_of slot_width store slot len)) (shared store, (slot, (len, tt))) refl refl refl refl
+reads_so : (store : List ℕ) (width slot len : ℕ) → Reads store width slot len (payload_of width store slot len)
+reads_so store width slot len = Reads.called (lifetimes 1) (shared store, (width, (slot, (len, tt)))) (shared (payload_of width store slot len)) (shared store, (width, (slot, (len, tt)))) refl refl refl refl refl
 
-says_so : (store : List ℕ) (a : Result (Option Queued) Refusal) → Says store a (said_of_release slot_width store a)
-says_so store (Ok (Some c)) = hands_out (reads_so store c.slot c.length)
-says_so store (Ok None) = none
-says_so store (Err e) = refuses
+says_so : (width : ℕ) (store : List ℕ) (a : Result (Option Queued) Refusal) → Says width store a (said_of_release width store a)
+says_so width store (Ok (Some c)) = hands_out (reads_so store width c.slot c.length)
+says_so width store (Ok None) = none
+says_so width store (Err e) = refuses
 
 answered_so : (v : Device) (t : Tables) (c : Call) → Binary64Call c → Answered v t c (answer_to v t c).reply (answer_to v t c).device (answer_to v t c).tables
 unfolding answer_to
 answered_so v t (arrive now bytes route) fit = arrives (arrives_so v t now bytes route fit)
-answered_so v t (release now) fit = releases (releases_so v t now) (says_so _ _)
+answered_so v t (release now) fit = releases (releases_so v t now) (says_so _ _ _)
 answered_so v t (rebind now) fit = rebinds (rebinds_so v now)
 answered_so v t teardown fit = tears_down (tears_so v)
 answered_so v t report fit = reports (reports_so v)

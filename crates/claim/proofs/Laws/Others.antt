@@ -19,7 +19,6 @@ use Rattle.engine.specs.Laws.Sound.{SoundEngine, rebound_sound}
 use Rattle.engine.specs.Refusals.{judged_given_of, judged_of, counters_pass}
 use Rattle.engine.specs.declared.engine.ArrivalEngine.{ArrivalEngine}
 use Rattle.queue.specs.Calls.{drain_of}
-use Rattle.queue.specs.Refusals.{slot_width}
 use Rattle.queue.specs.Tables.{Tables}
 use Rattle.queue.specs.declared.queue.ImpairQueue.{ImpairQueue}
 use Rattle.queue_laws.specs.Held.{plain, drained}
@@ -53,7 +52,7 @@ rebinds e now h = rw h
 
 -- ---- the three calls on the device of a machine's parts and a queue that keeps its list
 
-module _ (m : Machine) (q : ImpairQueue) (t : Tables) (keeps : Keeps slot_width t q (queue_of m)) (sound : SoundEngine m.engine) (short : AllShort m.held) where
+module _ (m : Machine) (q : ImpairQueue) (t : Tables) (keeps : Keeps t q (queue_of m)) (sound : SoundEngine m.engine) (short : AllShort m) where
   matching : Matches (device_of m q) t m
   matching = parts_match m q t keeps sound short
 
@@ -74,7 +73,7 @@ module _ (m : Machine) (q : ImpairQueue) (t : Tables) (keeps : Keeps slot_width 
 
   -- ---- teardown
 
-  torn_down : (a : Result ℕ Refusal) (r : ImpairQueue) → said_of_drain a ≡ drained (length m.held) → Keeps slot_width t r (plain m.cap [] m.next_seq)
+  torn_down : (a : Result ℕ Refusal) (r : ImpairQueue) → said_of_drain a ≡ drained (length m.held) → Keeps t r (plain m.cap m.width [] m.next_seq)
       → Agrees (said_by said_of_teardown t (torn_by a (device_of m q) r)) (step_to (tore_down (length m.held)) (tear m))
   unfolding torn_by
   torn_down (Ok n) r says empty =

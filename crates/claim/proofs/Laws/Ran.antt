@@ -9,7 +9,6 @@ use Rattle.options.specs.declared.config.Config.{Config}
 use Rattle.options.specs.declared.config.DirectionConfig.{DirectionConfig}
 use Rattle.held.specs.Copies.{copy}
 use Rattle.queue.specs.Tables.{Tables, after}
-use Rattle.queue.specs.Refusals.{slot_width}
 use Rattle.queue.specs.Calls.{payload_of}
 use Rattle.queue.specs.declared.answers.Queued.{Queued}
 use Rattle.machine.specs.Calls.{Call, Answer, released, Binary64Call, Binary64}
@@ -28,17 +27,17 @@ use Rattle.claim.proofs.Laws.Answers.{Said, said, said_by, said_by_arrive, said_
 pub parses_is : {text : List ℕ} {r : Config × Result (Unit {0}) Refusal} → Parses text r → r ≡ parse_of text
 parses_is (Parses.called κs a r s et h) = h ∙ ap parse_of et
 
-pub creates_is : {cfg : DirectionConfig} {seed salt cap : ℕ} {t : Tables} {r : Handed (Unit {0})} → Creates cfg seed salt cap t r → r ≡ create_of slot_width cfg seed salt cap t
-creates_is (Creates.called κs a r s ec es el en et h) = h ∙ (λ i. create_of slot_width (ec i) (es i) (el i) (en i) (et i))
+pub creates_is : {cfg : DirectionConfig} {seed salt cap width : ℕ} {t : Tables} {r : Handed (Unit {0})} → Creates cfg seed salt cap width t r → r ≡ create_of cfg seed salt cap width t
+creates_is (Creates.called κs a r s ec es el en ew et h) = h ∙ (λ i. create_of (ec i) (es i) (el i) (en i) (ew i) (et i))
 
-arrives_is : {v : Device} {t : Tables} {instant : Float} {bytes : List ℕ} {route : ℕ} {r : Handed Arrived} {t' : Tables} → Arrives v t instant bytes route r t' → after r t' ≡ arrive_of slot_width v t instant bytes route
-arrives_is (Arrives.called κs a r s fit ev et ei eb er h) = h.0 ∙ (λ i. arrive_of slot_width (ev i) (et i) (ei i) (eb i) (er i))
+arrives_is : {v : Device} {t : Tables} {instant : Float} {bytes : List ℕ} {route : ℕ} {r : Handed Arrived} {t' : Tables} → Arrives v t instant bytes route r t' → after r t' ≡ arrive_of v t instant bytes route
+arrives_is (Arrives.called κs a r s fit ev et ei eb er h) = h.0 ∙ (λ i. arrive_of (ev i) (et i) (ei i) (eb i) (er i))
 
 arrives_fit : {v : Device} {t : Tables} {instant : Float} {bytes : List ℕ} {route : ℕ} {r : Handed Arrived} {t' : Tables} → Arrives v t instant bytes route r t' → T (fits binary64 instant)
 arrives_fit (Arrives.called κs a r s fit ev et ei eb er h) = fit
 
-releases_is : {v : Device} {t : Tables} {instant : Float} {r : Handed (Option Queued)} {t' : Tables} → Releases v t instant r t' → after r t' ≡ release_of slot_width v t instant
-releases_is (Releases.called κs a r s ev et ei h) = h.0 ∙ (λ i. release_of slot_width (ev i) (et i) (ei i))
+releases_is : {v : Device} {t : Tables} {instant : Float} {r : Handed (Option Queued)} {t' : Tables} → Releases v t instant r t' → after r t' ≡ release_of v t instant
+releases_is (Releases.called κs a r s ev et ei h) = h.0 ∙ (λ i. release_of (ev i) (et i) (ei i))
 
 rebinds_is : {v : Device} {instant : Float} {r : Handed Bool} → Rebinds v instant r → r ≡ rebind_of v instant
 rebinds_is (Rebinds.called κs a r s ev ei h) = h ∙ (λ i. rebind_of (ev i) (ei i))
@@ -49,10 +48,10 @@ tears_is (TearsDown.called κs a r s ev h) = h ∙ ap teardown_of ev
 reports_is : {v : Device} {r : Result Report Refusal} → Reports v r → r ≡ report_of v
 reports_is (Reports.called κs a r s ev h) = h ∙ ap report_of ev
 
-reads_is : {store : List ℕ} {slot len : ℕ} {bytes : List ℕ} → Reads store slot len bytes → bytes ≡ payload_of slot_width store slot len
-reads_is (Reads.called κs a r s es et el h) = h ∙ (λ i. payload_of slot_width (es i) (et i) (el i))
+reads_is : {store : List ℕ} {width slot len : ℕ} {bytes : List ℕ} → Reads store width slot len bytes → bytes ≡ payload_of width store slot len
+reads_is (Reads.called κs a r s es ew et el h) = h ∙ (λ i. payload_of (ew i) (es i) (et i) (el i))
 
-says_is : {store : List ℕ} {a : Result (Option Queued) Refusal} {r : Answer} → Says store a r → r ≡ said_of_release slot_width store a
+says_is : {width : ℕ} {store : List ℕ} {a : Result (Option Queued) Refusal} {r : Answer} → Says width store a r → r ≡ said_of_release width store a
 says_is (hands_out {c} h) = ap (λ (b : List ℕ). released (copy c.due_ms c.seq c.arrival_ms c.route c.copy_id c.length b)) (reads_is h)
 says_is none = refl
 says_is refuses = refl

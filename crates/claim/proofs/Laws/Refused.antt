@@ -1,5 +1,5 @@
 -- A call that is refused by any number but 26 leaves the device and all nine tables as they were, whatever they were: what is found after the first tests is 26.
-use Rattle.std.specs.Prelude.{◌≡◌, refl, ◌≢◌, Bool, true, List, ℕ, eqb, Float, length, Option, None, Some, Result, Ok, Err, MatchResult}
+use Rattle.std.specs.Prelude.{◌≡◌, refl, ◌≢◌, Bool, true, List, ℕ, leb, eqb, Float, length, Option, None, Some, Result, Ok, Err, MatchResult}
 use Rattle.std.proofs.Common.{sym, ap, ◌∙◌, subst, inl, inr, ⊎_elim, arith}
 use Rattle.std.specs.Float.{binary64}
 use Rattle.std.specs.Float.Ieee.{sub}
@@ -15,7 +15,6 @@ use Rattle.steps.specs.declared.decision.Decision.TheVariants.{DropRandom, DropG
 use Rattle.engine.specs.Calls.{should_rebind_now_of}
 use Rattle.engine.specs.Decide.{decide_passed_of}
 use Rattle.queue.specs.Calls.{push_of, drain_of, release_of as queue_release_of}
-use Rattle.queue.specs.Refusals.{slot_width}
 use Rattle.queue.specs.Tables.{Tables, After}
 use Rattle.queue.specs.declared.answers.Entered.{Entered}
 use Rattle.queue.specs.declared.answers.Queued.{Queued}
@@ -51,14 +50,14 @@ unfolding torn_by
 torn_keeping (Ok n) = tt
 torn_keeping (Err e) = refl
 
-follow_keeping : (q : ImpairQueue) (t : Tables) (d : Decision) (now : Float) (route : ℕ) (bytes : List ℕ) → OnlyKeeping (follow_of slot_width q t d now route bytes).gives.1
+follow_keeping : (q : ImpairQueue) (t : Tables) (d : Decision) (now : Float) (route : ℕ) (bytes : List ℕ) → OnlyKeeping (follow_of q t d now route bytes).gives.1
 unfolding follow_of copies_of torn_of
 follow_keeping q t DropRandom now route bytes = tt
 follow_keeping q t DropGe now route bytes = tt
 follow_keeping q t DropMtu now route bytes = tt
 follow_keeping q t DropBlackout now route bytes = tt
 follow_keeping q t DropKillHold now route bytes = tt
-follow_keeping q t (Enqueue due duplicated) now route bytes = tallied_keeping (push_of slot_width q t due now route 0 duplicated bytes).gives.1 (asked_of duplicated)
+follow_keeping q t (Enqueue due duplicated) now route bytes = tallied_keeping (push_of q t due now route 0 duplicated bytes).gives.1 (asked_of duplicated)
 follow_keeping q t KillRst now route bytes = torn_keeping (drain_of q).1
 
 settled_keeping : (r : Result Admitted Reason) (v : Device) (d : Decision) → OnlyKeeping r → OnlyKeeping (settled_by r v d).1
@@ -73,7 +72,8 @@ send_keeping (Err e) c = refl
 
 sent_keeping : (a : Result (Option Queued) Reason) (v : Device) (now : Float) → OnlyKeeping (sending_by a v now).1
 unfolding sending_by accounted_of
-sent_keeping (Ok (Some c)) v now = send_keeping (on_send_of v.accounts c.length (sub binary64 now c.arrival_ms)).1 c
+sent_keeping (Ok (Some c)) v now =
+    cond_has (λ (h : Handed (Option Queued)). OnlyKeeping h.1) (leb c.length v.queue.width) (send_keeping (on_send_of v.accounts c.length (sub binary64 now c.arrival_ms)).1 c) refl
 sent_keeping (Ok None) v now = tt
 sent_keeping (Err e) v now = refl
 
@@ -92,9 +92,9 @@ told_keeping : {A : Type 0} (says : A → Answer) → ((x : A) (k : ℕ) → say
 told_keeping says grants (Ok x) h k e = absurd (grants x k e)
 told_keeping says grants (Err r) h k e = let same : number_of r ≡ k = cc in sym same ∙ ap number_of h
 
-left_grants : (store : List ℕ) (x : Option Queued) (k : ℕ) → left_of slot_width store x ≢ refused k
-left_grants store (Some c) k e = cc
-left_grants store None k e = cc
+left_grants : (width : ℕ) (store : List ℕ) (x : Option Queued) (k : ℕ) → left_of width store x ≢ refused k
+left_grants width store (Some c) k e = cc
+left_grants width store None k e = cc
 
 -- ---- each call, by its definition
 
@@ -114,14 +114,14 @@ module _ (v : Device) (t : Tables) where
   unfolding answer_to arrive_of release_of rebind_of teardown_of
   call_stays (arrive now bytes route) =
       let d = decide_passed_of v.engine now (length bytes) in
-      let f = follow_of slot_width v.queue t d.1 now route bytes in
-      unless_has (λ (o : After (Handed Arrived)). Stays (said_by_arrive o)) (arrive_refusal slot_width v t now (length bytes))
+      let f = follow_of v.queue t d.1 now route bytes in
+      unless_has (λ (o : After (Handed Arrived)). Stays (said_by_arrive o)) (arrive_refusal v t now (length bytes))
       (late _ (λ x k e. cc) f.memory _ (settled_keeping f.gives.1 _ d.1 (follow_keeping v.queue t d.1 now route bytes)))
       (λ e. at_once _)
   call_stays (release now) =
-      let l = queue_release_of slot_width v.queue t now in
-      unless_has (λ (o : After (Handed (Option Queued))). Stays (said_by_release o)) (release_refusal slot_width v t now)
-      (late _ (left_grants l.memory.store) l.memory _ (sent_keeping l.gives.1 _ now))
+      let l = queue_release_of v.queue t now in
+      unless_has (λ (o : After (Handed (Option Queued))). Stays (said_by_release o)) (release_refusal v t now)
+      (late _ (left_grants _ l.memory.store) l.memory _ (sent_keeping l.gives.1 _ now))
       (λ e. at_once _)
   call_stays (rebind now) =
       unless_has (λ (o : Handed Bool). Stays (said_by said_of_rebind t o)) (call_refusal v true (is_instant_of now) true)

@@ -1,7 +1,8 @@
--- A release answers as the machine's does: where a copy leaves, it is accounted, since its length is at most 2,048 and 25 let the counters through.
+-- A release answers as the machine's does: where a copy leaves, it is accounted, since it is no longer than a slot, which the accounts let through, and 25 let
+-- the counters through.
 use Rattle.std.proofs.Math.Path.{◌≡◌, subst}
 use Rattle.std.specs.Prelude.{refl, ℕ, ◌≤◌, Float, Option, None, Some, Result, Ok, Err}
-use Rattle.std.proofs.Common.{sym, le-leb}
+use Rattle.std.proofs.Common.{sym, arith, le_trans, le-leb}
 use Rattle.std.proofs.Math.Bool.{true}
 use Rattle.std.specs.Float.{binary64}
 use Rattle.std.specs.Float.Ieee.{sub}
@@ -18,7 +19,7 @@ use Rattle.held.specs.Copies.{Copy, without, Leaving, no_copy, one_copy, leaving
 use Rattle.held.proofs.Due.{leaving_mem}
 use Rattle.held.specs.Laws.Least.{mem_without}
 use Rattle.queue.specs.Calls.{release_of as queue_release_of}
-use Rattle.queue.specs.Refusals.{slot_width, memory_of}
+use Rattle.queue.specs.Refusals.{memory_of}
 use Rattle.queue.specs.Tables.{Tables, After, after}
 use Rattle.queue.specs.declared.answers.Queued.{Queued}
 use Rattle.queue.specs.declared.queue.ImpairQueue.{ImpairQueue}
@@ -36,7 +37,7 @@ use Rattle.device.specs.Release.{not_released, send_answer_of, accounted_of, sen
 use Rattle.device.specs.declared.device.Device.{Device}
 use Rattle.claim.proofs.Laws.Answers.{said_by_release}
 use Rattle.claim.proofs.Laws.Matches.{Matches, AllShort}
-use Rattle.claim.proofs.Laws.Agree.{Agrees, queue_of, device_of, of_device, parts_match, Passed, by_refusal}
+use Rattle.claim.proofs.Laws.Agree.{Agrees, queue_of, device_of, of_device, parts_match, narrow, Passed, by_refusal}
 
 -- ---- the copy that left is accounted
 
@@ -44,9 +45,9 @@ sent_done : (a : SendAccountant) (n : ℕ) (x : Float) → n ≤ max_length → 
 unfolding is_length_of
 sent_done a n x short counted = send_done a n x (le-leb n max_length short) counted
 
-module _ (m : Machine) (sound : SoundEngine m.engine) (short : AllShort m.held) (now : Float) where
+module _ (m : Machine) (sound : SoundEngine m.engine) (short : AllShort m) (now : Float) where
   -- nothing is due
-  none_left : (a : Result (Option Queued) Refusal) (q : ImpairQueue) (t : Tables) → queue_says slot_width t.store a ≡ queue_none_due → Keeps slot_width t q (queue_of m)
+  none_left : (a : Result (Option Queued) Refusal) (q : ImpairQueue) (t : Tables) → queue_says q.width t.store a ≡ queue_none_due → Keeps t q (queue_of m)
       → Agrees (said_by_release (after (sending_by a (device_of m q) now) t)) (step_to none_due m)
   unfolding sending_by
   none_left (Ok (Some c)) q t says keeps = cc
@@ -55,28 +56,30 @@ module _ (m : Machine) (sound : SoundEngine m.engine) (short : AllShort m.held) 
 
   module _ (counted : are_counters (accountant_counters m.accounts) ≡ true) where
     -- what the queue hands out, the device hands out and accounts
-    handed_out : (x : Queued) (q : ImpairQueue) (t : Tables) → x.length ≤ max_length → Keeps slot_width t q (plain m.cap (without x.seq m.held) m.next_seq)
-        → Agrees (said_by_release (after (accounted_of (device_of m q) x now) t)) (step_to (released (copy_of slot_width t.store x)) (leave m now (copy_of slot_width t.store x)))
+    handed_out : (x : Queued) (q : ImpairQueue) (t : Tables) → x.length ≤ m.width → Keeps t q (plain m.cap m.width (without x.seq m.held) m.next_seq)
+        → Agrees (said_by_release (after (accounted_of (device_of m q) x now) t)) (step_to (released (copy_of q.width t.store x)) (leave m now (copy_of q.width t.store x)))
     unfolding accounted_of send_answer_of
     handed_out x q t within keeps =
-        rw (sent_done m.accounts x.length (sub binary64 now x.arrival_ms) within counted)
-        (record { says = refl; matches = parts_match (leave m now (copy_of slot_width t.store x)) q t keeps sound (λ c k. short c (mem_without x.seq m.held c k)) })
+        rw (sent_done m.accounts x.length (sub binary64 now x.arrival_ms) (le_trans within (narrow t q (plain m.cap m.width (without x.seq m.held) m.next_seq) keeps)) counted)
+        (record { says = refl; matches = parts_match (leave m now (copy_of q.width t.store x)) q t keeps sound (λ c k. short c (mem_without x.seq m.held c k)) })
 
-    one_left : (c : Copy) → c.length ≤ max_length → (a : Result (Option Queued) Refusal) (q : ImpairQueue) (t : Tables) → queue_says slot_width t.store a ≡ queue_released c
-        → Keeps slot_width t q (plain m.cap (without c.seq m.held) m.next_seq)
+    one_left : (c : Copy) → c.length ≤ m.width → (a : Result (Option Queued) Refusal) (q : ImpairQueue) (t : Tables) → queue_says q.width t.store a ≡ queue_released c
+        → Keeps t q (plain m.cap m.width (without c.seq m.held) m.next_seq)
         → Agrees (said_by_release (after (sending_by a (device_of m q) now) t)) (step_to (released c) (leave m now c))
     unfolding sending_by
     one_left c within (Ok (Some x)) q t says keeps =
-        let same : copy_of slot_width t.store x ≡ c = cc in
-        subst (λ (y : Copy). Agrees (said_by_release (after (accounted_of (device_of m q) x now) t)) (step_to (released y) (leave m now y))) same
-        (handed_out x q t (subst (λ (y : Copy). y.length ≤ max_length) (sym same) within) (subst (λ (y : Copy). Keeps slot_width t q (plain m.cap (without y.seq m.held) m.next_seq)) (sym same) keeps))
+        let same : copy_of q.width t.store x ≡ c = cc in
+        let inside : x.length ≤ m.width = subst (λ (y : Copy). y.length ≤ m.width) (sym same) within in
+        rw (le-leb x.length q.width (omega (arith, inside, keeps.same_width)))
+        (subst (λ (y : Copy). Agrees (said_by_release (after (accounted_of (device_of m q) x now) t)) (step_to (released y) (leave m now y))) same
+        (handed_out x q t inside (subst (λ (y : Copy). Keeps t q (plain m.cap m.width (without y.seq m.held) m.next_seq)) (sym same) keeps)))
     one_left c within (Ok None) q t says keeps = cc
     one_left c within (Err e) q t says keeps = cc
 
     -- the queue's step, and the machine's
     module _ (a : Result (Option Queued) Refusal) (q : ImpairQueue) (t : Tables) where
       abbrev Said : QueueStep → Type 0
-      Said s = (queue_says slot_width t.store a ≡ s.reply) × Keeps slot_width t q s.then
+      Said s = (queue_says q.width t.store a ≡ s.reply) × Keeps t q s.then
 
       both_hand_out : (x : Leaving) → leaving now m.held ≡ x → Said (queue_hand_out (queue_of m) x) → Agrees (said_by_release (after (sending_by a (device_of m q) now) t)) (hand_out m now x)
       unfolding queue_hand_out hand_out
@@ -88,19 +91,19 @@ release_passed : (p : Plain) (now : Float) → is_instant_of now ≡ true → is
 unfolding release_plain first_failing
 release_passed p now instant next = rw (instant, next)
 
-module _ (m : Machine) (q : ImpairQueue) (t : Tables) (now : Float) (keeps : Keeps slot_width t q (queue_of m)) (sound : SoundEngine m.engine) (short : AllShort m.held) where
-  left : Passed m (is_instant_of now) true → Agrees (said_by_release (sent_in (device_of m q) (queue_release_of slot_width q t now) now)) (hand_out m now (leaving now m.held))
+module _ (m : Machine) (q : ImpairQueue) (t : Tables) (now : Float) (keeps : Keeps t q (queue_of m)) (sound : SoundEngine m.engine) (short : AllShort m) where
+  left : Passed m (is_instant_of now) true → Agrees (said_by_release (sent_in (device_of m q) (queue_release_of q t now) now)) (hand_out m now (leaving now m.held))
   left p =
-      let o = queue_release_of slot_width q t now in
-      let a = subst (Agree slot_width (queue_said slot_width o)) (release_passed (queue_of m) now p.instant_passes p.next) (release_agrees slot_width t q (queue_of m) keeps now) in
+      let o = queue_release_of q t now in
+      let a = subst (Agree (queue_said o)) (release_passed (queue_of m) now p.instant_passes p.next) (release_agrees t q (queue_of m) keeps now) in
       both_hand_out m sound short now p.accounts o.gives.1 o.gives.0 o.memory (leaving now m.held) refl (a.says, a.keeps)
 
-  from_parts : Agrees (said_by_release (release_of slot_width (device_of m q) t now)) (step m (release now))
+  from_parts : Agrees (said_by_release (release_of (device_of m q) t now)) (step m (release now))
   unfolding release_of step release_step
   from_parts =
-      by_refusal (λ (o : After (Handed (Option Queued))). Agrees (said_by_release o)) m (sent_in (device_of m q) (queue_release_of slot_width q t now) now) (λ (r : Refusal). after (not_released (device_of m q) r) t) (hand_out m now (leaving now m.held))
+      by_refusal (λ (o : After (Handed (Option Queued))). Agrees (said_by_release o)) m (sent_in (device_of m q) (queue_release_of q t now) now) (λ (r : Refusal). after (not_released (device_of m q) r) t) (hand_out m now (leaving now m.held))
       (λ (r : Refusal). record { says = refl; matches = parts_match m q t keeps sound short })
-      q keeps.same_next (memory_of slot_width q.cap t) (is_instant_of now) true (long_memory slot_width q.cap t keeps.long) left
+      q keeps.same_next (memory_of q.width q.cap t) (is_instant_of now) true (long_memory q.width q.cap t keeps.long) left
 
-pub release_matches : (v : Device) (t : Tables) (m : Machine) → Matches v t m → (now : Float) → Agrees (said_by_release (release_of slot_width v t now)) (step m (release now))
-release_matches v t m k now = of_device (λ (w : Device). Agrees (said_by_release (release_of slot_width w t now)) (step m (release now))) v t m k (from_parts m v.queue t now k.queue k.sound k.short)
+pub release_matches : (v : Device) (t : Tables) (m : Machine) → Matches v t m → (now : Float) → Agrees (said_by_release (release_of v t now)) (step m (release now))
+release_matches v t m k now = of_device (λ (w : Device). Agrees (said_by_release (release_of w t now)) (step m (release now))) v t m k (from_parts m v.queue t now k.queue k.sound k.short)

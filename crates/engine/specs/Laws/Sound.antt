@@ -6,7 +6,7 @@ use Rattle.std.specs.Float.Ieee.{fits}
 use Rattle.std.specs.Float.Ieee.Bits.{is_true}
 use Rattle.std.specs.Float.Ieee.Fits.{of_int-fits}
 use Rattle.numbers.specs.Instant.{is_instant_of}
-use Rattle.numbers.specs.Limits.{is_length_of}
+use Rattle.numbers.specs.Limits.{max_length, is_length_of}
 use Rattle.numbers.specs.Laws.Both.{both_true}
 use Rattle.numbers.specs.Laws.Bounded.{Bounded, instant_bounded, whole_bounded}
 use Rattle.numbers.specs.Laws.Limits.{length_within}
@@ -17,7 +17,7 @@ use Rattle.settings.specs.Judgement.{is_probability, is_time, is_ge}
 use Rattle.judgement.specs.Settings.{is_settings_of}
 use Rattle.judgement.specs.Laws.Parsed.{default_judged}
 use Rattle.options.specs.declared.config.DirectionConfig.{DirectionConfig}
-use Rattle.steps.specs.Laws.Credit.{longest_planned, full_credit}
+use Rattle.steps.specs.Laws.Credit.{full_credit}
 use Rattle.steps.proofs.Sound.{SoundScalars, SoundState, DueFrom, arrived_sound}
 use Rattle.judgement.specs.Scalars.{is_rate, are_scalars_of}
 use Rattle.engine.specs.Calls.{new_engine_of, decide_given_of, decide_of}
@@ -80,13 +80,13 @@ rebound_sound e s = record { settings = s.settings; state = s.state }
 
 -- ---- one arrival
 
--- an instant and a length at which the credit stays bounded
-pub record Planned (now : Float) (len : ℕ) : Type 0 where
+-- an instant and a length that 21 and 22 let through, at which the credit stays bounded
+pub record Permitted (now : Float) (len : ℕ) : Type 0 where
   pub fit : T (fits binary64 now)
   pub bounded : Bounded now
-  pub short : len ≤ longest_planned
+  pub short : len ≤ max_length
 
-pub passed_sound : (e : ArrivalEngine) (now : Float) (len : ℕ) → SoundEngine e → Planned now len
+pub passed_sound : (e : ArrivalEngine) (now : Float) (len : ℕ) → SoundEngine e → Permitted now len
     → SoundEngine (decide_passed_of e now len).0 × DueFrom now (decide_passed_of e now len).1
 unfolding decide_passed_of after_of state_of
 passed_sound e now len s a =
@@ -106,7 +106,7 @@ decide_sound e now len s fit =
     called_has (λ (r : ArrivalEngine × Result Decision Refusal). SoundEngine r.0 × DueAnswered now r.1) (arrival_refusal (is_settings_of e.cfg) e now len) e (decide_passed_of e now len)
     (λ p.
     let ok = no_refusal (is_settings_of e.cfg) e (is_instant_of now) (is_length_of len) p in
-    passed_sound e now len s (record { fit = fit; bounded = instant_bounded now ok.instant_passes; short = omega (arith, length_within len ok.length_passes) }))
+    passed_sound e now len s (record { fit = fit; bounded = instant_bounded now ok.instant_passes; short = length_within len ok.length_passes }))
     (λ k. (s, tt))
 
 -- ---- every sequence of arrivals
@@ -116,19 +116,19 @@ abbrev pub DuesAlong : ArrivalEngine → List (Float × ℕ) → Type 0
 DuesAlong e [] = Unit {0}
 DuesAlong e (a ∷ l) = DueFrom a.0 (decide_passed_of e a.0 a.1).1 × DuesAlong (decide_passed_of e a.0 a.1).0 l
 
-abbrev pub AllPlanned : List (Float × ℕ) → Type 0
-AllPlanned [] = Unit {0}
-AllPlanned (a ∷ l) = Planned a.0 a.1 × AllPlanned l
+abbrev pub AllPermitted : List (Float × ℕ) → Type 0
+AllPermitted [] = Unit {0}
+AllPermitted (a ∷ l) = Permitted a.0 a.1 × AllPermitted l
 
 -- the engine after a sequence of arrivals
 abbrev pub after_all : ArrivalEngine → List (Float × ℕ) → ArrivalEngine
 after_all e [] = e
 after_all e (a ∷ l) = after_all (decide_passed_of e a.0 a.1).0 l
 
-pub arrivals_sound : (e : ArrivalEngine) (l : List (Float × ℕ)) → SoundEngine e → AllPlanned l → SoundEngine (after_all e l)
+pub arrivals_sound : (e : ArrivalEngine) (l : List (Float × ℕ)) → SoundEngine e → AllPermitted l → SoundEngine (after_all e l)
 arrivals_sound e [] s h = s
 arrivals_sound e (a ∷ l) s h = arrivals_sound (decide_passed_of e a.0 a.1).0 l (passed_sound e a.0 a.1 s h.0).0 h.1
 
-pub dues_sound : (e : ArrivalEngine) (l : List (Float × ℕ)) → SoundEngine e → AllPlanned l → DuesAlong e l
+pub dues_sound : (e : ArrivalEngine) (l : List (Float × ℕ)) → SoundEngine e → AllPermitted l → DuesAlong e l
 dues_sound e [] s h = tt
 dues_sound e (a ∷ l) s h = let after = passed_sound e a.0 a.1 s h.0 in (after.1, dues_sound (decide_passed_of e a.0 a.1).0 l after.0 h.1)

@@ -1,11 +1,10 @@
 -- A machine whose copies have lost their bytes and routes answers calls that have lost theirs as the machine answers the calls: nothing else looks at them.
-use Rattle.std.specs.Prelude.{◌≡◌, refl, Bool, true, false, cond, List, [], ◌∷◌, map, ℕ, ltb, eqb, Float, length}
+use Rattle.std.specs.Prelude.{◌≡◌, refl, Bool, true, false, cond, List, [], ◌∷◌, map, ℕ, leb, ltb, eqb, Float, length}
 use Rattle.std.proofs.Common.{ap, ◌∙◌}
 use Rattle.std.proofs.lemmas.List.{length-map, map-append, length-replicate}
 use Rattle.std.specs.Float.Ieee.{le}
 use Rattle.numbers.specs.Checks.{first_failing}
 use Rattle.numbers.specs.Instant.{is_instant_of}
-use Rattle.numbers.specs.Limits.{is_length_of}
 use Rattle.steps.specs.declared.decision.Decision.{Decision}
 use Rattle.steps.specs.declared.decision.Decision.TheVariants.{DropRandom, DropGe, DropMtu, DropBlackout, DropKillHold, Enqueue, KillRst}
 use Rattle.held.specs.Order.{before_of}
@@ -13,10 +12,11 @@ use Rattle.held.specs.Copies.{Copy, least, without, due_by, Leaving, no_copy, on
 use Rattle.machine.specs.Machine.{Machine, machine, Creation, fresh_machine}
 use Rattle.machine.specs.Calls.{Call, arrive, release, rebind, teardown, report, Answer}
 use Rattle.machine.specs.Steps.{Step, step_to, machine_checks, unless, Entry, entry, enter_copy, enter_copies, with_copy, enters_as, follow, arrive_step, hand_out, release_step, rebind_step, teardown_step, report_step, step, answers}
+use Rattle.machine.proofs.Laws.Cases.{either}
 use Rattle.machine.specs.Bare.{blank, bare_call, bare_copy, bare_answer, bare_calls, bare_answers}
 
 abbrev pub bare_machine : Machine → Machine
-bare_machine m = machine m.engine m.cap (map bare_copy m.held) m.next_seq m.accounts m.torn
+bare_machine m = machine m.engine m.cap m.width (map bare_copy m.held) m.next_seq m.accounts m.torn
 
 abbrev pub bare_step : Step → Step
 bare_step s = step_to (bare_answer s.answer) (bare_machine s.then)
@@ -25,11 +25,6 @@ abbrev bare_entry : Entry → Entry
 bare_entry e = entry (bare_machine e.then) e.entered e.overflowed
 
 -- ---- lists
-
--- what a function gives of the branch taken is what it gives of each
-either : {A B : Type 0} (f : A → B) (b : Bool) {x y : A} {u v : B} → f x ≡ u → f y ≡ v → f (cond b x y) ≡ cond b u v
-either f true p q = p
-either f false p q = q
 
 -- the least is the same, and so are the copy that leaves and those that stay
 bare_least : (c : Copy) (l : List Copy) → bare_copy (least c l) ≡ least (bare_copy c) (map bare_copy l)
@@ -104,8 +99,8 @@ bare_release m now = bare_hand m now (leaving now m.held) ∙ ap (hand_out (bare
 bare_arrive : (m : Machine) (now : Float) (bytes : List ℕ) (route : ℕ) → bare_step (arrive_step m now bytes route) ≡ arrive_step (bare_machine m) now (blank bytes) 0
 unfolding arrive_step
 bare_arrive m now bytes route =
-    bare_unless m (is_instant_of now) (is_length_of (length bytes)) _
-    ∙ ap (unless (bare_machine m) (is_instant_of now) (is_length_of (length bytes))) (bare_follow _ _ now bytes route)
+    bare_unless m (is_instant_of now) (leb (length bytes) m.width) _
+    ∙ ap (unless (bare_machine m) (is_instant_of now) (leb (length bytes) m.width)) (bare_follow _ _ now bytes route)
     ∙ cc (length-replicate {A = ℕ} (length bytes) 0)
 
 pub bare_step_lem : (m : Machine) (c : Call) → bare_step (step m c) ≡ step (bare_machine m) (bare_call c)

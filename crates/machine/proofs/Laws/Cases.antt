@@ -1,11 +1,10 @@
 -- What a step of each call can be, once for all laws.
-use Rattle.std.specs.Prelude.{◌≡◌, refl, Bool, true, false, List, [], ◌∷◌, ℕ, Float, length}
+use Rattle.std.specs.Prelude.{◌≡◌, refl, Bool, true, false, cond, List, [], ◌∷◌, ℕ, leb, Float, length}
 use Rattle.std.proofs.Common.{inl, inr}
 use Rattle.std.specs.Float.Ieee.{le}
 use Rattle.numbers.specs.Checks.{check, first_failing}
 use Rattle.numbers.specs.Instant.{is_instant_of}
 use Rattle.numbers.specs.Laws.NotNan.{cond_has}
-use Rattle.numbers.specs.Limits.{is_length_of}
 use Rattle.numbers.specs.Refusals.{refused_instant, refused_length, refused_counter}
 use Rattle.accounts.specs.Accountant.{merged_of}
 use Rattle.engine.specs.Changes.{rebound_of}
@@ -19,7 +18,7 @@ use Rattle.machine.specs.Steps.{Step, step_to, unless_refused, unless, with_engi
 -- the steps of each call: it may be refused, and a release or a rebind may find nothing to do
 pub data Does (m : Machine) : Call → Step → Type 0 where
   refuses : (c : Call) (k : ℕ) → Refusal k → Does m c (step_to (refused k) m)
-  decides : (now : Float) (bytes : List ℕ) (route : ℕ) → is_instant_of now ≡ true → is_length_of (length bytes) ≡ true
+  decides : (now : Float) (bytes : List ℕ) (route : ℕ) → is_instant_of now ≡ true → leb (length bytes) m.width ≡ true
       → Does m (arrive now bytes route) (follow (with_engine m (decide_passed_of m.engine now (length bytes)).0) (decide_passed_of m.engine now (length bytes)).1 now bytes route)
   releases : (now : Float) (c : Copy) → Mem c m.held → Does m (release now) (step_to (released c) (leave m now c))
   finds_none : (now : Float) → Does m (release now) (step_to none_due m)
@@ -47,11 +46,16 @@ hand_does m now (one_copy c) e = releases now c (leaving_mem now m.held c e)
 
 pub step_does : (m : Machine) (c : Call) → Does m c (step m c)
 unfolding step arrive_step release_step rebind_step teardown_step report_step
-step_does m (arrive now bytes route) = unless_does m (arrive now bytes route) (is_instant_of now) (is_length_of (length bytes)) (decides now bytes route)
+step_does m (arrive now bytes route) = unless_does m (arrive now bytes route) (is_instant_of now) (leb (length bytes) m.width) (decides now bytes route)
 step_does m (release now) = unless_does m (release now) (is_instant_of now) true (λ i l. hand_does m now (leaving now m.held) refl)
 step_does m (rebind now) = unless_does m (rebind now) (is_instant_of now) true (λ i l. cond_has (Does m (rebind now)) (le m.engine.next_rebind_ms now) (rebinds now) (address_stays now))
 step_does m teardown = unless_does m teardown true true (λ i l. tears)
 step_does m report = unless_does m report true true (λ i l. reports)
+
+-- what a function gives of the branch taken is what it gives of each
+pub either : {A B : Type 0} (f : A → B) (b : Bool) {x y : A} {u v : B} → f x ≡ u → f y ≡ v → f (cond b x y) ≡ cond b u v
+either f true p q = p
+either f false p q = q
 
 -- what every copy carries on as it enters or overflows holds when all copies have
 pub enters_have : (P : Entry → Type 0) (m : Machine) (due : Float) (duplicated : Bool) (now : Float) (bytes : List ℕ) (route : ℕ)

@@ -1,9 +1,9 @@
--- With settings that 29 lets through the engine stays sound, and so each held copy has a due that is a number, not before its arrival.
-use Rattle.std.specs.Prelude.{◌≡◌, true, List, [], ◌∷◌, ◌++◌, ℕ, ltb, Float, length}
-use Rattle.std.proofs.Common.{⊎_elim, arith}
+-- With settings that 29 lets through and a width that 30 does the engine stays sound, and so each held copy has a due that is a number, not before its arrival.
+use Rattle.std.specs.Prelude.{◌≡◌, true, List, [], ◌∷◌, ◌++◌, ℕ, ◌≤◌, ltb, Float, length}
+use Rattle.std.proofs.Common.{⊎_elim, le_trans, leb-true}
 use Rattle.numbers.specs.Laws.Bounded.{instant_bounded}
-use Rattle.numbers.specs.Laws.Limits.{length_within}
 use Rattle.numbers.specs.Laws.NotNan.{cond_has}
+use Rattle.numbers.specs.Limits.{max_width}
 use Rattle.judgement.specs.Settings.{is_settings_of}
 use Rattle.steps.proofs.Sound.{From, DueFrom}
 use Rattle.steps.specs.declared.decision.Decision.{Decision}
@@ -22,6 +22,7 @@ SoundDues l = (c : Copy) → Mem c l → From c.arrival c.due
 
 pub record SoundMachine (m : Machine) : Type 0 where
   pub engine : SoundEngine m.engine
+  pub narrow : m.width ≤ max_width
   pub dues : SoundDues m.held
 
 -- ---- lists
@@ -41,8 +42,8 @@ enter_sound : {due now : Float} (route : ℕ) (bytes : List ℕ) → From now du
 unfolding enter_copy
 enter_sound route bytes from id e h =
     cond_has (λ (n : Entry). SoundMachine n.then) (ltb (length e.then.held) e.then.cap)
-    (record { engine = h.engine; dues = dues_last e.then.held _ h.dues from })
-    (record { engine = overflowed_sound e.then.engine 1 h.engine; dues = h.dues })
+    (record { engine = h.engine; narrow = h.narrow; dues = dues_last e.then.held _ h.dues from })
+    (record { engine = overflowed_sound e.then.engine 1 h.engine; narrow = h.narrow; dues = h.dues })
 
 follow_sound : (m : Machine) (d : Decision) (now : Float) (bytes : List ℕ) (route : ℕ) → SoundMachine m → DueFrom now d → SoundMachine (follow m d now bytes route).then
 unfolding follow
@@ -52,18 +53,18 @@ follow_sound m DropMtu now bytes route h from = h
 follow_sound m DropBlackout now bytes route h from = h
 follow_sound m DropKillHold now bytes route h from = h
 follow_sound m (Enqueue due duplicated) now bytes route h from = enters_have (λ (e : Entry). SoundMachine e.then) m due duplicated now bytes route (enter_sound route bytes from) h
-follow_sound m KillRst now bytes route h from = record { engine = h.engine; dues = no_dues }
+follow_sound m KillRst now bytes route h from = record { engine = h.engine; narrow = h.narrow; dues = no_dues }
 
 does_sound : {m : Machine} {c : Call} {s : Step} → Does m c s → Binary64Call c → SoundMachine m → SoundMachine s.then
 does_sound (refuses c k r) fit h = h
 does_sound {m} (decides now bytes route instant short) fit h =
-    let after = passed_sound m.engine now (length bytes) h.engine (record { fit = fit; bounded = instant_bounded now instant; short = omega (arith, length_within (length bytes) short) }) in
-    follow_sound _ _ now bytes route (record { engine = after.0; dues = h.dues }) after.1
-does_sound {m} (releases now c k) fit h = record { engine = h.engine; dues = dues_without c.seq m.held h.dues }
+    let after = passed_sound m.engine now (length bytes) h.engine (record { fit = fit; bounded = instant_bounded now instant; short = le_trans (leb-true (length bytes) m.width short) h.narrow }) in
+    follow_sound _ _ now bytes route (record { engine = after.0; narrow = h.narrow; dues = h.dues }) after.1
+does_sound {m} (releases now c k) fit h = record { engine = h.engine; narrow = h.narrow; dues = dues_without c.seq m.held h.dues }
 does_sound (finds_none now) fit h = h
-does_sound {m} (rebinds now) fit h = record { engine = rebound_sound m.engine h.engine; dues = h.dues }
+does_sound {m} (rebinds now) fit h = record { engine = rebound_sound m.engine h.engine; narrow = h.narrow; dues = h.dues }
 does_sound (address_stays now) fit h = h
-does_sound tears fit h = record { engine = h.engine; dues = no_dues }
+does_sound tears fit h = record { engine = h.engine; narrow = h.narrow; dues = no_dues }
 does_sound reports fit h = h
 
 -- ---- lists of calls
@@ -73,6 +74,6 @@ unfolding after_all
 all_sound m h [] fit = h
 all_sound m h (c ∷ cs) fit = all_sound (step m c).then (does_sound (step_does m c) fit.0 h) cs fit.1
 
-pub fresh_machine_sound : (made : Creation) → is_settings_of made.settings ≡ true → SoundMachine (fresh_machine made)
+pub fresh_machine_sound : (made : Creation) → is_settings_of made.settings ≡ true → made.width ≤ max_width → SoundMachine (fresh_machine made)
 unfolding fresh_machine
-fresh_machine_sound made h = record { engine = fresh_sound made.settings made.generator_seed h; dues = no_dues }
+fresh_machine_sound made h narrow = record { engine = fresh_sound made.settings made.generator_seed h; narrow = narrow; dues = no_dues }

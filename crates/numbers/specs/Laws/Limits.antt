@@ -1,12 +1,13 @@
--- Counters and lengths that are let through: what they are below, and that the bits of several counters may be judged at once.
-use Rattle.std.specs.Prelude.{◌≡◌, ℕ, ◌<◌, ◌≤◌, true, ◌&&◌, ltb, bit_or, nat_lt}
-use Rattle.std.proofs.Common.{sym, subst, le_refl, le_trans, le_of_eq, add-le-add, lt_of_le_of_lt, ltb→lt, lt→ltb, leb→le}
+-- Counters, lengths and widths that are let through: what they are below, and that the bits of several counters may be judged at once.
+use Rattle.std.specs.Prelude.{◌≡◌, ℕ, ◌<◌, ◌≤◌, true, ◌&&◌, ltb, bit_or, nat_le, nat_lt}
+use Rattle.std.proofs.Common.{sym, subst, le_refl, le_trans, le_of_eq, add-le-add, lt_of_le_of_lt, ltb→lt, lt→ltb, leb→le, le→leb}
 use Rattle.std.proofs.Math.Bool.{and-eq-true_iff}
 use Rattle.std.proofs.Math.Nat.{add-le-add_iff_right}
 use Rattle.std.proofs.lemmas.Nat.{or_lt, and_le_r, or_comm}
 use Rattle.std.specs.Int.Bits.{or_add_and}
 use Rattle.std.specs.Float.Ieee.Bits.{is_true}
-use Rattle.numbers.specs.Limits.{max_length, is_length_of, counter_limit, is_counter_of}
+use Rattle.numbers.specs.Limits.{min_width, max_width, is_width_of, max_length, is_length_of, counter_limit, is_counter_of}
+use Rattle.numbers.specs.Laws.Both.{both, both_true}
 use Rattle.numbers.specs.Laws.Order.{same_test}
 
 pub counter_below : (n : ℕ) → is_counter_of n ≡ true → n < counter_limit
@@ -16,6 +17,16 @@ counter_below n h = ltb→lt n counter_limit (rw h tt)
 pub length_within : (n : ℕ) → is_length_of n ≡ true → n ≤ max_length
 unfolding is_length_of
 length_within n h = leb→le n max_length (rw h tt)
+
+pub width_within : (n : ℕ) → is_width_of n ≡ true → (min_width ≤ n) × (n ≤ max_width)
+unfolding is_width_of
+width_within n h =
+    let both = both_true (nat_le min_width n) (nat_le n max_width) h in
+    (leb→le min_width n (rw both.0 tt), leb→le n max_width (rw both.1 tt))
+
+pub width_passes : (n : ℕ) → min_width ≤ n → n ≤ max_width → is_width_of n ≡ true
+unfolding is_width_of
+width_passes n low high = both (nat_le min_width n) (nat_le n max_width) (is_true _ (le→leb min_width n low)) (is_true _ (le→leb n max_width high))
 
 -- `|` is no less than either side
 left_le_or : (a b : ℕ) → a ≤ bit_or a b

@@ -6,13 +6,13 @@ use Rattle.std.proofs.Math.Dec.{leb}
 use Rattle.std.proofs.lemmas.Bool.{lt-leb}
 use Rattle.numbers.specs.Laws.Both.{both_true}
 use Rattle.numbers.specs.Laws.NotNan.{cond_has}
-use Rattle.numbers.specs.Limits.{max_capacity}
+use Rattle.numbers.specs.Limits.{max_capacity, min_width, max_width, is_width_of}
 use Rattle.numbers.specs.declared.refusal.Refusal.{Refusal}
 use Rattle.numbers.specs.declared.refusal.Refusal.TheVariants as refusal
 use Rattle.held.specs.Copies.{Copy}
 use Rattle.queue.specs.Tables.{Tables}
 use Rattle.queue.specs.Refusals.{room_of, memory_of}
-use Rattle.queue.specs.Calls.{Handed, fresh, not_created, create_of}
+use Rattle.queue.specs.Calls.{Handed, default_width, fresh, not_created, create_of}
 use Rattle.queue.specs.declared.queue.ImpairQueue.{ImpairQueue}
 use Rattle.queue_laws.specs.Held.{Plain, plain}
 use Rattle.queue_laws.specs.Laws.Rows.{none, seq_limit, view, Perm}
@@ -23,10 +23,12 @@ unfolding view
 no_rows row = none
 
 -- nothing is held, and no slot was used
-pub nothing_held : (width cap : ℕ) (t : Tables) (next : ℕ) → 0 < cap → cap ≤ max_capacity → Long width cap t → next ≤ seq_limit → Keeps width t (fresh cap next) (plain cap [] next)
-nothing_held width cap t next pos small long next_in = record {
+pub nothing_held : (cap width : ℕ) (t : Tables) (next : ℕ) → 0 < cap → cap ≤ max_capacity → is_width_of width ≡ true → Long width cap t → next ≤ seq_limit
+    → Keeps t (fresh cap width next) (plain cap width [] next)
+nothing_held cap width t next pos small wide long next_in = record {
   pos = pos;
   small = small;
+  wide = wide;
   long = long;
   next_in = next_in;
   held_in = omega arith;
@@ -42,15 +44,17 @@ nothing_held width cap t next pos small long next_in = record {
   count = refl;
   same_next = refl;
   same_cap = refl;
+  same_width = refl;
   same = no_rows (row_of width t);
 }
 
 -- a queue that is drained holds nothing
-pub drained_keeps : (width : ℕ) (t : Tables) (q : ImpairQueue) (p : Plain) → Keeps width t q p → Keeps width t (fresh q.cap q.next_seq) (plain p.cap [] p.next_seq)
-drained_keeps width t q p k =
-    subst (λ (c : ℕ). Keeps width t (fresh q.cap q.next_seq) (plain c [] p.next_seq)) k.same_cap
-    (subst (λ (x : ℕ). Keeps width t (fresh q.cap q.next_seq) (plain q.cap [] x)) k.same_next
-    (nothing_held width q.cap t q.next_seq k.pos k.small k.long k.next_in))
+pub drained_keeps : (t : Tables) (q : ImpairQueue) (p : Plain) → Keeps t q p → Keeps t (fresh q.cap q.width q.next_seq) (plain p.cap p.width [] p.next_seq)
+drained_keeps t q p k =
+    subst (λ (c : ℕ). Keeps t (fresh q.cap q.width q.next_seq) (plain c p.width [] p.next_seq)) k.same_cap
+    (subst (λ (w : ℕ). Keeps t (fresh q.cap q.width q.next_seq) (plain q.cap w [] p.next_seq)) k.same_width
+    (subst (λ (x : ℕ). Keeps t (fresh q.cap q.width q.next_seq) (plain q.cap q.width [] x)) k.same_next
+    (nothing_held q.cap q.width t q.next_seq k.pos k.small k.wide k.long k.next_in)))
 
 -- ---- the test of the memory
 
@@ -107,48 +111,66 @@ short_memory width cap t lacks = go (memory_of width cap t) refl
     go true e = absurd (lacks (memory_long width cap t e))
     go false e = refl
 
--- ---- creation: the three cases, of which exactly one holds
+-- ---- creation: the four cases, of which exactly one holds
 
 -- 24: the capacity is out of range
-pub create_capacity : (width cap : ℕ) (t : Tables) → (cap < 1) ⊎ (max_capacity < cap) → create_of width cap t ≡ not_created refusal.Capacity
+pub create_capacity : (cap width : ℕ) (t : Tables) → (cap < 1) ⊎ (max_capacity < cap) → create_of cap width t ≡ not_created refusal.Capacity
 unfolding create_of
-create_capacity width cap t (inl h) = rw (lt-leb 1 cap h)
-create_capacity width cap t (inr h) = rw (le-leb 1 cap (omega arith), lt-leb cap max_capacity h)
+create_capacity cap width t (inl h) = rw (lt-leb 1 cap h)
+create_capacity cap width t (inr h) = rw (le-leb 1 cap (omega arith), lt-leb cap max_capacity h)
+
+-- 30: the width is out of range
+pub create_width : (cap width : ℕ) (t : Tables) → 0 < cap → cap ≤ max_capacity → (width < min_width) ⊎ (max_width < width) → create_of cap width t ≡ not_created refusal.Width
+unfolding create_of is_width_of
+create_width cap width t pos small (inl h) = rw (le-leb 1 cap pos, le-leb cap max_capacity small, lt-leb min_width width h)
+create_width cap width t pos small (inr h) = rw (le-leb 1 cap pos, le-leb cap max_capacity small, le-leb min_width width (omega arith), lt-leb width max_width h)
 
 -- 23: the memory is too short
-pub create_memory : (width cap : ℕ) (t : Tables) → 0 < cap → cap ≤ max_capacity → (Long width cap t → ⊥) → create_of width cap t ≡ not_created refusal.Memory
+pub create_memory : (cap width : ℕ) (t : Tables) → 0 < cap → cap ≤ max_capacity → is_width_of width ≡ true → (Long width cap t → ⊥) → create_of cap width t ≡ not_created refusal.Memory
 unfolding create_of
-create_memory width cap t pos small lacks = rw (le-leb 1 cap pos, le-leb cap max_capacity small, short_memory width cap t lacks)
+create_memory cap width t pos small wide lacks = rw (le-leb 1 cap pos, le-leb cap max_capacity small, wide, short_memory width cap t lacks)
 
 -- else it is created
-pub create_made : (width cap : ℕ) (t : Tables) → 0 < cap → cap ≤ max_capacity → Long width cap t → create_of width cap t ≡ (fresh cap 0, Ok tt)
+pub create_made : (cap width : ℕ) (t : Tables) → 0 < cap → cap ≤ max_capacity → is_width_of width ≡ true → Long width cap t → create_of cap width t ≡ (fresh cap width 0, Ok tt)
 unfolding create_of
-create_made width cap t pos small long = rw (le-leb 1 cap pos, le-leb cap max_capacity small, long_memory width cap t long)
+create_made cap width t pos small wide long = rw (le-leb 1 cap pos, le-leb cap max_capacity small, wide, long_memory width cap t long)
+
+-- what holds of a refusal, and of what comes where the test passes
+passed_test : {A : Type 0} (P : A → Type 0) (b : Bool) {x y : A} → P x → (b ≡ true → P y) → P (cond (not b) x y)
+passed_test P true refused passes = passes refl
+passed_test P false refused passes = refused
 
 -- a creation that was not refused: the queue holds nothing, on any lent memory
-pub create_keeps : (width cap : ℕ) (t : Tables) → (create_of width cap t).1 ≡ Ok tt → Keeps width t (create_of width cap t).0 (plain cap [] 0)
-unfolding create_of
-create_keeps width cap t = go (leb 1 cap && leb cap max_capacity) refl (memory_of width cap t) refl
-  where
-    go : (a : Bool) → (leb 1 cap && leb cap max_capacity) ≡ a → (b : Bool) → memory_of width cap t ≡ b
-        → (cond (not a) (not_created refusal.Capacity) (cond (not b) (not_created refusal.Memory) (fresh cap 0, Ok tt))).1 ≡ Ok tt
-        → Keeps width t (cond (not a) (not_created refusal.Capacity) (cond (not b) (not_created refusal.Memory) (fresh cap 0, Ok tt))).0 (plain cap [] 0)
-    go false ea b eb h = cc
-    go true ea false eb h = cc
-    go true ea true eb h =
-        let range = both_true (leb 1 cap) (leb cap max_capacity) ea in
-        nothing_held width cap t 0 (leb-true 1 cap range.0) (leb-true cap max_capacity range.1) (memory_long width cap t eb) (omega arith)
+module _ (cap width : ℕ) (t : Tables) where
+  abbrev Empty : Handed (Unit {0}) → Type 0
+  Empty c = c.1 ≡ Ok tt → Keeps t c.0 (plain cap width [] 0)
 
--- a creation that was refused: a queue of capacity 1 that holds nothing, on any memory that is long enough for it
-module _ (width cap : ℕ) (t later : Tables) (r : Refusal) where
+  not_made : (k : Refusal) → Empty (not_created k)
+  not_made k h = cc
+
+  made : (leb 1 cap && leb cap max_capacity) ≡ true → is_width_of width ≡ true → memory_of width cap t ≡ true → Empty (fresh cap width 0, Ok tt)
+  made in_range wide long h =
+      let range = both_true (leb 1 cap) (leb cap max_capacity) in_range in
+      nothing_held cap width t 0 (leb-true 1 cap range.0) (leb-true cap max_capacity range.1) wide (memory_long width cap t long) (omega arith)
+
+  pub create_keeps : Empty (create_of cap width t)
+  unfolding create_of
+  create_keeps = passed_test Empty (leb 1 cap && leb cap max_capacity) (not_made refusal.Capacity) (λ a.
+      passed_test Empty (is_width_of width) (not_made refusal.Width) (λ b.
+      passed_test Empty (memory_of width cap t) (not_made refusal.Memory) (λ c. made a b c)))
+
+-- a creation that was refused: a queue of capacity 1 and width 2,048 that holds nothing, on any memory that is long enough for it
+module _ (cap width : ℕ) (t later : Tables) (r : Refusal) where
   abbrev One : Handed (Unit {0}) → Type 0
-  One c = c.1 ≡ Err r → memory_of width 1 later ≡ true → Keeps width later c.0 (plain 1 [] 0)
+  One c = c.1 ≡ Err r → memory_of default_width 1 later ≡ true → Keeps later c.0 (plain 1 default_width [] 0)
 
   one : (k : Refusal) → One (not_created k)
-  one k e long = nothing_held width 1 later 0 (omega arith) (omega arith) (memory_long width 1 later long) (omega arith)
+  unfolding is_width_of
+  one k e long = nothing_held 1 default_width later 0 (omega arith) (omega arith) refl (memory_long default_width 1 later long) (omega arith)
 
-  pub refused_keeps : One (create_of width cap t)
+  pub refused_keeps : One (create_of cap width t)
   unfolding create_of
   refused_keeps =
       cond_has One (not (leb 1 cap && leb cap max_capacity)) (one refusal.Capacity)
-      (cond_has One (not (memory_of width cap t)) (one refusal.Memory) (λ e long. cc))
+      (cond_has One (not (is_width_of width)) (one refusal.Width)
+      (cond_has One (not (memory_of width cap t)) (one refusal.Memory) (λ e long. cc)))

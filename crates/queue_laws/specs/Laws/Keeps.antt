@@ -1,9 +1,9 @@
 -- The relation between lent tables with a state, and a plain queue: the slots in use hold the copies of its list, in any order.
-use Rattle.std.specs.Prelude.{◌≡◌, refl, ◌⊎◌, false, ℕ, ◌-◌, ◌*◌, ◌<◌, ◌≤◌, length, get_or}
+use Rattle.std.specs.Prelude.{◌≡◌, refl, ◌⊎◌, true, false, ℕ, ◌-◌, ◌*◌, ◌<◌, ◌≤◌, length, get_or}
 use Rattle.std.proofs.Common.{⊎_elim}
 use Rattle.std.specs.Float.{inf}
 use Rattle.std.specs.Float.Ieee.{is_nan}
-use Rattle.numbers.specs.Limits.{max_capacity}
+use Rattle.numbers.specs.Limits.{max_capacity, is_width_of}
 use Rattle.numbers.specs.Whole.{whole}
 use Rattle.held.specs.Copies.{Copy, copy}
 use Rattle.held.specs.Laws.Order.{Num}
@@ -16,7 +16,7 @@ use Rattle.queue_laws.specs.Held.{Plain}
 use Rattle.queue_laws.specs.Laws.Tree.{Good}
 use Rattle.queue_laws.specs.Laws.Rows.{Perm, seq_limit, view}
 
--- what a slot holds, with its bytes
+-- what a slot of that width holds, with its bytes
 abbrev pub row_of : ℕ → Tables → ℕ → Copy
 row_of width t s =
     copy (get_or t.dues s (whole 0)) (get_or t.seqs s 0) (get_or t.arrivals s (whole 0)) (get_or t.routes s 0) (get_or t.copy_ids s 0)
@@ -28,7 +28,7 @@ Slot t next s =
     ((get_or t.dues s (whole 0) ≡ free_due) × (get_or t.seqs s 0 ≡ free_seq))
     ⊎ (Num (get_or t.dues s (whole 0)) × (get_or t.seqs s 0 < next))
 
--- every table has an entry for each slot, and the store a width of bytes
+-- every table has an entry for each slot, and the store so many bytes
 pub record Long (width cap : ℕ) (t : Tables) : Type 0 where
   pub win : cap ≤ length t.win
   pub free : cap ≤ length t.free
@@ -40,10 +40,11 @@ pub record Long (width cap : ℕ) (t : Tables) : Type 0 where
   pub lengths : cap ≤ length t.lengths
   pub store : cap * width ≤ length t.store
 
-pub record Keeps (width : ℕ) (t : Tables) (q : ImpairQueue) (p : Plain) : Type 0 where
+pub record Keeps (t : Tables) (q : ImpairQueue) (p : Plain) : Type 0 where
   pub pos : 0 < q.cap
   pub small : q.cap ≤ max_capacity
-  pub long : Long width q.cap t
+  pub wide : is_width_of q.width ≡ true
+  pub long : Long q.width q.cap t
   pub next_in : q.next_seq ≤ seq_limit
   pub held_in : q.held ≤ q.opened
   pub opened_in : q.opened ≤ q.leaves
@@ -61,12 +62,13 @@ pub record Keeps (width : ℕ) (t : Tables) (q : ImpairQueue) (p : Plain) : Type
   pub count : q.held ≡ length p.held
   pub same_next : q.next_seq ≡ p.next_seq
   pub same_cap : q.cap ≡ p.cap
-  pub same : Perm p.held (view (row_of width t) q.leaves)
+  pub same_width : q.width ≡ p.width
+  pub same : Perm p.held (view (row_of q.width t) q.leaves)
 
 pub num_inf : Num (inf false)
 unfolding is_nan
 num_inf = refl
 
 -- every slot's due is a number
-pub nums : (width : ℕ) (t : Tables) (q : ImpairQueue) (p : Plain) → Keeps width t q p → (s : ℕ) → s < q.leaves → Num (get_or t.dues s (whole 0))
-nums width t q p k s h = ⊎_elim (λ w. rw w.0 num_inf) (λ w. w.0) (k.slots s h)
+pub nums : (t : Tables) (q : ImpairQueue) (p : Plain) → Keeps t q p → (s : ℕ) → s < q.leaves → Num (get_or t.dues s (whole 0))
+nums t q p k s h = ⊎_elim (λ w. rw w.0 num_inf) (λ w. w.0) (k.slots s h)

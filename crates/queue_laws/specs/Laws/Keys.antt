@@ -28,7 +28,7 @@ before_free (fin u x e) n num h = refl
 pub clash : {A : Type 0} → ◌≡◌ {A = Bool} true false → A
 clash e = absurd (true≢false e)
 
-module _ (width : ℕ) (t : Tables) (q : ImpairQueue) (p : Plain) (k : Keeps width t q p) (s : ℕ) (d : Float) (n : ℕ) (low : s < q.leaves) (num : Num d) where
+module _ (t : Tables) (q : ImpairQueue) (p : Plain) (k : Keeps t q p) (s : ℕ) (d : Float) (n : ℕ) (low : s < q.leaves) (num : Num d) where
   pub due_here : get_or (set t.dues s d) s (whole 0) ≡ d
   due_here = get_or-set_same t.dues s d (whole 0) (omega (arith, k.long.dues, k.leaves_in))
 
@@ -42,14 +42,14 @@ module _ (width : ℕ) (t : Tables) (q : ImpairQueue) (p : Plain) (k : Keeps wid
   seq_there x h = get_or-set_other t.seqs s x n 0 h
 
   set_num : (x : ℕ) → x < q.leaves → Num (get_or (set t.dues s d) x (whole 0))
-  set_num x h = ⊎_elim (λ (e : x ≡ s). rw (e, due_here) num) (λ (e : x ≢ s). rw (due_there x e) (nums width t q p k x h)) (eq_cases x s)
+  set_num x h = ⊎_elim (λ (e : x ≡ s). rw (e, due_here) num) (λ (e : x ≢ s). rw (due_there x e) (nums t q p k x h)) (eq_cases x s)
 
   less_there : (x y : ℕ) → x ≢ s → y ≢ s → less_of (set t.dues s d) (set t.seqs s n) x y ≡ less_of t.dues t.seqs x y
   unfolding less_of
   less_there x y hx hy = rw (due_there x hx, due_there y hy, seq_there x hx, seq_there y hy)
 
   order : Order (less_of t.dues t.seqs) q.leaves
-  order = due_order t.dues t.seqs q.leaves (nums width t q p k)
+  order = due_order t.dues t.seqs q.leaves (nums t q p k)
 
   order' : Order (less_of (set t.dues s d) (set t.seqs s n)) q.leaves
   order' = due_order (set t.dues s d) (set t.seqs s n) q.leaves set_num

@@ -34,13 +34,13 @@ next_slot_lem q free h = ⊎_elim
     (eq_cases q.held q.opened)
 
 -- a copy entered: its slot was in range, and the tables keep the plain queue with it
-pub record Entered (width : ℕ) (o : AfterCopy) (p : Plain) : Type 0 where
+pub record Entered (o : AfterCopy) (p : Plain) : Type 0 where
   pub fits : o.gives.1 ≡ Ok tt
-  pub keeps : Keeps width o.memory o.gives.0 p
+  pub keeps : Keeps o.memory o.gives.0 p
 
 -- ---- a copy enters a slot that has a leaf
 
-module _ (width : ℕ) (t : Tables) (q : ImpairQueue) (p : Plain) (k : Keeps width t q p) (due arrival : Float) (route id : ℕ) (bytes : List ℕ) (num : Num due) (fit : length bytes ≤ width) (more : q.next_seq < seq_limit) (s : ℕ) (which : Next q t.free s) (low : s < q.leaves) where
+module _ (t : Tables) (q : ImpairQueue) (p : Plain) (k : Keeps t q p) (due arrival : Float) (route id : ℕ) (bytes : List ℕ) (num : Num due) (fit : length bytes ≤ q.width) (more : q.next_seq < seq_limit) (s : ℕ) (which : Next q t.free s) (low : s < q.leaves) where
   was_free_seq : seq_limit ≤ get_or t.seqs s 0
   was_free_seq = ⊎_elim (λ w. k.unused s (omega (arith, w.1)) low) (λ w. rw w.1 (k.seqs_free _ (omega (arith, w.0)))) which
 
@@ -53,24 +53,24 @@ module _ (width : ℕ) (t : Tables) (q : ImpairQueue) (p : Plain) (k : Keeps wid
   was_free : (get_or t.dues s (whole 0) ≡ free_due) × (get_or t.seqs s 0 ≡ free_seq)
   was_free = ⊎_elim (λ w. w) (λ w. absurd (omega (arith, w.1, k.next_in, was_free_seq))) (k.slots s low)
 
-  has_store : s * width + width ≤ length t.store
-  has_store = slot_inside width q.cap s (length t.store) k.long.store (omega (arith, k.leaves_in))
+  has_store : s * q.width + q.width ≤ length t.store
+  has_store = slot_inside q.width q.cap s (length t.store) k.long.store (omega (arith, k.leaves_in))
 
   abbrev t' : Tables
   t' = tables (climbed_of (set t.dues s due) (set t.seqs s q.next_seq) q.leaves (q.leaves + s) t.win (q.leaves + s) s) t.free (set t.dues s due) (set t.seqs s q.next_seq)
-      (set t.arrivals s arrival) (set t.routes s route) (set t.copy_ids s id) (set t.lengths s (length bytes)) (filled_of width t.store s bytes)
+      (set t.arrivals s arrival) (set t.routes s route) (set t.copy_ids s id) (set t.lengths s (length bytes)) (filled_of q.width t.store s bytes)
 
   here_due : get_or t'.dues s (whole 0) ≡ due
-  here_due = due_here width t q p k s due q.next_seq low num
+  here_due = due_here t q p k s due q.next_seq low num
 
   there_due : (x : ℕ) → x ≢ s → get_or t'.dues x (whole 0) ≡ get_or t.dues x (whole 0)
-  there_due = due_there width t q p k s due q.next_seq low num
+  there_due = due_there t q p k s due q.next_seq low num
 
   here_seq : get_or t'.seqs s 0 ≡ q.next_seq
-  here_seq = seq_here width t q p k s due q.next_seq low num
+  here_seq = seq_here t q p k s due q.next_seq low num
 
   there_seq : (x : ℕ) → x ≢ s → get_or t'.seqs x 0 ≡ get_or t.seqs x 0
-  there_seq = seq_there width t q p k s due q.next_seq low num
+  there_seq = seq_there t q p k s due q.next_seq low num
 
   old_seq : (y : ℕ) → y < q.leaves → get_or t.seqs y 0 ≢ q.next_seq
   old_seq y h e = ⊎_elim (λ w. omega (arith, w.1)) (λ w. omega (arith, w.1)) (k.slots y h)
@@ -96,7 +96,7 @@ module _ (width : ℕ) (t : Tables) (q : ImpairQueue) (p : Plain) (k : Keeps wid
       (λ w. let z : j ≡ q.opened - q.held - 1 = k.apart j (q.opened - q.held - 1) (omega arith) (omega (arith, w.0)) (e ∙ w.1) in omega (arith, w.0))
       which
 
-  push_rows : (x : ℕ) → x ≢ s → row_of width t' x ≡ row_of width t x
+  push_rows : (x : ℕ) → x ≢ s → row_of q.width t' x ≡ row_of q.width t x
   push_rows x h =
       rw (
         there_due x h,
@@ -105,10 +105,10 @@ module _ (width : ℕ) (t : Tables) (q : ImpairQueue) (p : Plain) (k : Keeps wid
         get_or-set_other t.routes s x route 0 h,
         get_or-set_other t.copy_ids s x id 0 h,
         get_or-set_other t.lengths s x (length bytes) 0 h,
-        filled_there width t.store s bytes fit has_store x (get_or t.lengths x 0) h,
+        filled_there q.width t.store s bytes fit has_store x (get_or t.lengths x 0) h,
       )
 
-  push_row : row_of width t' s ≡ copy due p.next_seq arrival route id (length bytes) bytes
+  push_row : row_of q.width t' s ≡ copy due p.next_seq arrival route id (length bytes) bytes
   push_row =
       rw (
         here_due,
@@ -117,14 +117,15 @@ module _ (width : ℕ) (t : Tables) (q : ImpairQueue) (p : Plain) (k : Keeps wid
         get_or-set_same t.routes s route 0 (omega (arith, k.long.routes, k.leaves_in, low)),
         get_or-set_same t.copy_ids s id 0 (omega (arith, k.long.copy_ids, k.leaves_in, low)),
         get_or-set_same t.lengths s (length bytes) 0 (omega (arith, k.long.lengths, k.leaves_in, low)),
-        filled_here width t.store s bytes fit has_store,
+        filled_here q.width t.store s bytes fit has_store,
         k.same_next,
       )
 
-  push_keeps : Keeps width t' (one_more q q.leaves) (with_copy p due arrival route id bytes)
+  push_keeps : Keeps t' (one_more q q.leaves) (with_copy p due arrival route id bytes)
   push_keeps = record {
     pos = k.pos;
     small = k.small;
+    wide = k.wide;
     long = record {
       win = rw climbed_length k.long.win;
       free = k.long.free;
@@ -134,13 +135,13 @@ module _ (width : ℕ) (t : Tables) (q : ImpairQueue) (p : Plain) (k : Keeps wid
       routes = rw length-set k.long.routes;
       copy_ids = rw length-set k.long.copy_ids;
       lengths = rw length-set k.long.lengths;
-      store = rw (filled_length width t.store s bytes fit has_store) k.long.store;
+      store = rw (filled_length q.width t.store s bytes fit has_store) k.long.store;
     };
     next_in = omega arith;
     held_in = omega arith;
     opened_in = opened_inside;
     leaves_in = k.leaves_in;
-    good = take_good width t q p k s due q.next_seq low num was_free.0 was_free.1 (omega arith);
+    good = take_good t q p k s due q.next_seq low num was_free.0 was_free.1 (omega arith);
     slots = push_slots;
     unused = λ (x : ℕ) (h : max q.opened (q.held + 1) ≤ x) (l : x < q.leaves). rw (there_seq x (λ (e : x ≡ s). omega (arith, opened_next))) (k.unused x (omega arith) l);
     uniq = push_uniq;
@@ -150,13 +151,14 @@ module _ (width : ℕ) (t : Tables) (q : ImpairQueue) (p : Plain) (k : Keeps wid
     count = rw length-append (omega (arith, k.count));
     same_next = omega (arith, k.same_next);
     same_cap = k.same_cap;
-    same = trans (perm_last p.held _) (trans (skip _ k.same) (subst (λ (x : Copy). Perm (x ∷ view (row_of width t) q.leaves) (view (row_of width t') q.leaves)) push_row
-        (view_push (row_of width t) (row_of width t') s push_rows was_free_seq (rw here_seq (omega arith)) q.leaves low)));
+    same_width = k.same_width;
+    same = trans (perm_last p.held _) (trans (skip _ k.same) (subst (λ (x : Copy). Perm (x ∷ view (row_of q.width t) q.leaves) (view (row_of q.width t') q.leaves)) push_row
+        (view_push (row_of q.width t) (row_of q.width t') s push_rows was_free_seq (rw here_seq (omega arith)) q.leaves low)));
   }
 
 -- ---- the tree grows
 
-module _ (width : ℕ) (t : Tables) (q : ImpairQueue) (p : Plain) (k : Keeps width t q p) (n : ℕ) (more : q.leaves ≤ n) (some : 0 < n) (most : n ≤ q.cap) where
+module _ (t : Tables) (q : ImpairQueue) (p : Plain) (k : Keeps t q p) (n : ℕ) (more : q.leaves ≤ n) (some : 0 < n) (most : n ≤ q.cap) where
   abbrev t⁺ : Tables
   t⁺ = tables (built_of (free_dues q.leaves n t.dues) (free_seqs q.leaves n t.seqs) n (n - 1) t.win) t.free (free_dues q.leaves n t.dues) (free_seqs q.leaves n t.seqs)
       t.arrivals t.routes t.copy_ids t.lengths t.store
@@ -188,13 +190,14 @@ module _ (width : ℕ) (t : Tables) (q : ImpairQueue) (p : Plain) (k : Keeps wid
       let b = in_tree x hx (rw e u) in
       k.uniq s x a b (rw (kept_seq s a) at u) (sym (kept_seq x b) ∙ e ∙ kept_seq s a)
 
-  grow_rows : (s : ℕ) → s < q.leaves → row_of width t⁺ s ≡ row_of width t s
+  grow_rows : (s : ℕ) → s < q.leaves → row_of q.width t⁺ s ≡ row_of q.width t s
   grow_rows s h = rw (kept_due s h, kept_seq s h)
 
-  grow_keeps : Keeps width t⁺ (record { cap = q.cap; held = q.held; next_seq = q.next_seq; leaves = n; opened = q.opened }) p
+  grow_keeps : Keeps t⁺ (record { cap = q.cap; width = q.width; held = q.held; next_seq = q.next_seq; leaves = n; opened = q.opened }) p
   grow_keeps = record {
     pos = k.pos;
     small = k.small;
+    wide = k.wide;
     long = record {
       win = rw built_length k.long.win;
       free = k.long.free;
@@ -220,12 +223,13 @@ module _ (width : ℕ) (t : Tables) (q : ImpairQueue) (p : Plain) (k : Keeps wid
     count = k.count;
     same_next = k.same_next;
     same_cap = k.same_cap;
-    same = subst (λ (l : List Copy). Perm p.held l) (sym (view_more (row_of width t⁺) q.leaves n more (λ (x : ℕ) (a : q.leaves ≤ x) (b : x < n). rw (new_seq x a b) (omega arith)) ∙ view_same (row_of width t⁺) (row_of width t) q.leaves grow_rows)) k.same;
+    same_width = k.same_width;
+    same = subst (λ (l : List Copy). Perm p.held l) (sym (view_more (row_of q.width t⁺) q.leaves n more (λ (x : ℕ) (a : q.leaves ≤ x) (b : x < n). rw (new_seq x a b) (omega arith)) ∙ view_same (row_of q.width t⁺) (row_of q.width t) q.leaves grow_rows)) k.same;
   }
 
 -- ---- a copy enters, and the tree grows where its slot has no leaf
 
-module _ (width : ℕ) (t : Tables) (q : ImpairQueue) (p : Plain) (k : Keeps width t q p) (room : q.held < q.cap) where
+module _ (t : Tables) (q : ImpairQueue) (p : Plain) (k : Keeps t q p) (room : q.held < q.cap) where
   next_high : next_slot q t.free ≤ q.opened
   next_high = ⊎_elim (λ w. omega (arith, w.1)) (λ w. omega (arith, w.1, k.free_low (q.opened - q.held - 1) (omega (arith, w.0)))) (next_slot_lem q t.free k.held_in)
 
@@ -236,25 +240,25 @@ module _ (width : ℕ) (t : Tables) (q : ImpairQueue) (p : Plain) (k : Keeps wid
   next_fits : fits_of q.cap q.leaves (next_slot q t.free) ≡ true
   next_fits = true_fits q.cap q.leaves (next_slot q t.free) k.small k.leaves_in next_low (omega (arith, next_high, k.opened_in))
 
-  module _ (due arrival : Float) (route id : ℕ) (bytes : List ℕ) (num : Num due) (fit : length bytes ≤ width) (more : q.next_seq < seq_limit) where
+  module _ (due arrival : Float) (route id : ℕ) (bytes : List ℕ) (num : Num due) (fit : length bytes ≤ q.width) (more : q.next_seq < seq_limit) where
     -- the copy stands in the tables that have the tree g
     abbrev Enters : Tree → Type 0
-    Enters g = Keeps width (joined g t.free (written_of width (rows_of t) (next_slot q t.free) arrival route id bytes)) (one_more q g.leaves) (with_copy p due arrival route id bytes)
+    Enters g = Keeps (joined g t.free (written_of q.width (rows_of t) (next_slot q t.free) arrival route id bytes)) (one_more q g.leaves) (with_copy p due arrival route id bytes)
 
     widened_keeps : Enters (placed_of (widened_of q.cap q.leaves (next_slot q t.free) (tree_of q.leaves t)) (next_slot q t.free) due q.next_seq)
     unfolding grown_of placed_of written_of
     widened_keeps = ⊎_elim
         (λ (h : next_slot q t.free < q.leaves).
         subst (λ (g : Tree). Enters (placed_of g (next_slot q t.free) due q.next_seq)) (sym (widened_same q.cap q.leaves (next_slot q t.free) (tree_of q.leaves t) h))
-        (push_keeps width t q p k due arrival route id bytes num fit more (next_slot q t.free) (next_slot_lem q t.free k.held_in) h))
+        (push_keeps t q p k due arrival route id bytes num fit more (next_slot q t.free) (next_slot_lem q t.free k.held_in) h))
         (λ (h : q.leaves ≤ next_slot q t.free).
         subst (λ (g : Tree). Enters (placed_of g (next_slot q t.free) due q.next_seq)) (sym (widened_more q.cap q.leaves (next_slot q t.free) (tree_of q.leaves t) h))
-        (push_keeps width _ _ p (grow_keeps width t q p k (leaves_for q.cap q.leaves) (omega (arith, k.leaves_in)) (omega (arith, k.pos)) (omega arith)) due arrival route id bytes num fit more (next_slot q t.free) (next_slot_lem q t.free k.held_in) (omega (arith, next_high, next_low, k.opened_in))))
+        (push_keeps _ _ p (grow_keeps t q p k (leaves_for q.cap q.leaves) (omega (arith, k.leaves_in)) (omega (arith, k.pos)) (omega arith)) due arrival route id bytes num fit more (next_slot q t.free) (next_slot_lem q t.free k.held_in) (omega (arith, next_high, next_low, k.opened_in))))
         (lt_cases (next_slot q t.free) q.leaves)
 
     enter_keeps : Enters (enter_of q.cap (next_slot q t.free) due q.next_seq (tree_of q.leaves t))
     enter_keeps = subst Enters (sym (enter_is q.cap (next_slot q t.free) due q.next_seq (tree_of q.leaves t) next_fits)) widened_keeps
 
-    pub copy_enters : Entered width (enter_copy_of width q t due arrival route id bytes) (with_copy p due arrival route id bytes)
+    pub copy_enters : Entered (enter_copy_of q t due arrival route id bytes) (with_copy p due arrival route id bytes)
     unfolding enter_copy_of entered_of
     copy_enters = rw next_fits (record { fits = refl; keeps = enter_keeps })

@@ -16,13 +16,13 @@ use Rattle.queue.specs.declared.answers.Entered.{Entered}
 use Rattle.queue.specs.declared.answers.Queued.{Queued}
 
 -- what keeps a copy from entering is 26
-copy_keeping : (width : ℕ) (q : ImpairQueue) (t : Tables) (due arrival : Float) (route id : ℕ) (bytes : List ℕ) (e : Refusal) → (enter_copy_of width q t due arrival route id bytes).gives.1 ≡ Err e
+copy_keeping : (q : ImpairQueue) (t : Tables) (due arrival : Float) (route id : ℕ) (bytes : List ℕ) (e : Refusal) → (enter_copy_of q t due arrival route id bytes).gives.1 ≡ Err e
     → e ≡ refusal.Keeping
 unfolding enter_copy_of entered_of
-copy_keeping width q t due arrival route id bytes e =
+copy_keeping q t due arrival route id bytes e =
     cond_has (λ (o : AfterCopy). o.gives.1 ≡ Err e → e ≡ refusal.Keeping) (fits_of q.cap q.leaves (next_slot q t.free)) (λ h. cc) (λ h. cc)
 
-module _ (width : ℕ) (q : ImpairQueue) (t : Tables) where
+module _ (q : ImpairQueue) (t : Tables) where
   abbrev PushStays : After (Handed Entered) → Type 0
   PushStays o = (e : Refusal) → o.gives.1 ≡ Err e → e ≢ refusal.Keeping → o ≡ after (not_pushed q e) t
 
@@ -34,22 +34,22 @@ module _ (width : ℕ) (q : ImpairQueue) (t : Tables) where
       go (Ok u) er h = cc
       go (Err k) er h = absurd (other (keeping e (let z : k ≡ e = cc in cc)))
 
-  pub push_stays : (due arrival : Float) (route id : ℕ) (duplicated : Bool) (bytes : List ℕ) → PushStays (push_of width q t due arrival route id duplicated bytes)
+  pub push_stays : (due arrival : Float) (route id : ℕ) (duplicated : Bool) (bytes : List ℕ) → PushStays (push_of q t due arrival route id duplicated bytes)
   unfolding push_of enter_copies_of second_of
   push_stays due arrival route id duplicated bytes =
-      let first = enter_copy_of width q t due arrival route id bytes in
-      unless_has PushStays (push_refusal width q (memory_of width q.cap t) due arrival (length bytes))
-      (cond_has PushStays (again_of duplicated first.gives) (told_stays q.next_seq 2 _ (copy_keeping width first.gives.0 first.memory due arrival route 1 bytes))
-      (told_stays q.next_seq 1 _ (copy_keeping width q t due arrival route id bytes)))
+      let first = enter_copy_of q t due arrival route id bytes in
+      unless_has PushStays (push_refusal q (memory_of q.width q.cap t) due arrival (length bytes))
+      (cond_has PushStays (again_of duplicated first.gives) (told_stays q.next_seq 2 _ (copy_keeping first.gives.0 first.memory due arrival route 1 bytes))
+      (told_stays q.next_seq 1 _ (copy_keeping q t due arrival route id bytes)))
       (λ k e h other. cc)
 
   abbrev ReleaseStays : After (Handed (Option Queued)) → Type 0
   ReleaseStays o = ((c : Queued) → o.gives.1 ≢ Ok (Some c)) → o ≡ not_released q o.gives.1 t
 
-  pub release_stays : (now : Float) → ReleaseStays (release_of width q t now)
+  pub release_stays : (now : Float) → ReleaseStays (release_of q t now)
   unfolding release_of due_of left_of
   release_stays now =
-      unless_has ReleaseStays (release_refusal q (memory_of width q.cap t) now)
+      unless_has ReleaseStays (release_refusal q (memory_of q.width q.cap t) now)
       (cond_has ReleaseStays (eqb q.held 0) (λ none. refl)
       (cond_has ReleaseStays (leb q.leaves (least_of t.win q.leaves)) (λ none. refl)
       (cond_has ReleaseStays (le (get_or t.dues (least_of t.win q.leaves) (whole 0)) now) (λ none. absurd (none _ refl)) (λ none. refl))))

@@ -7,7 +7,7 @@ use Rattle.std.specs.Float.Ieee.{of_int, lt, le, fits}
 use Rattle.std.specs.Float.Ieee.Fits.{of_int-fits}
 use Rattle.std.specs.Float.Ieee.Positive.{positive, positive_of_value}
 use Rattle.numbers.specs.Credit.{wait_of}
-use Rattle.numbers.specs.Limits.{max_exact}
+use Rattle.numbers.specs.Limits.{max_exact, max_length}
 use Rattle.numbers.specs.Whole.{whole}
 use Rattle.numbers.specs.Laws.Both.{both_true}
 use Rattle.numbers.specs.Laws.Kinds.{Plus, PlusFinite, plus_finite, value_plus}
@@ -41,25 +41,21 @@ capacity_clear rate burst h k =
 pub full_credit : (rate : Option ℕ) (burst : ℕ) → is_rate rate ≡ true → is_bounded burst ≡ true → Credit (whole (bucket_capacity_of rate burst))
 full_credit rate burst h k = plus_credit (of_int-fits binary64 (pos (bucket_capacity_of rate burst))) (capacity_clear rate burst h k)
 
--- the longest packet that is planned, in bytes
-abbrev pub longest_planned : ℕ
-longest_planned = 9216
-
-planned_within : (len : ℕ) → len ≤ longest_planned → T (le (whole len) longest_packet)
+packet_within : (len : ℕ) → len ≤ max_length → T (le (whole len) longest_packet)
 unfolding of_int
-planned_within len h = rw (whole_le len (2 ^ 14) (omega arith) (lit≤ tt)) (le→leb len (2 ^ 14) (omega arith))
+packet_within len h = rw (whole_le len (2 ^ 14) (omega arith) (lit≤ tt)) (le→leb len (2 ^ 14) (omega arith))
 
 -- a credit stays one
-pub charged_credit : {tokens last now : Float} (rate : Option ℕ) (burst len : ℕ) → is_rate rate ≡ true → is_bounded burst ≡ true → len ≤ longest_planned
+pub charged_credit : {tokens last now : Float} (rate : Option ℕ) (burst len : ℕ) → is_rate rate ≡ true → is_bounded burst ≡ true → len ≤ max_length
     → Credit tokens → T (fits binary64 last) → Bounded last → T (fits binary64 now) → Bounded now → Credit (charged_of tokens last rate burst now len)
 unfolding charged_of of_int
 charged_credit None burst len h k s t lf l nf n = t
 charged_credit (Some bps) burst len h k s t lf l nf n =
     credit_stays t (elapsed_bounded nf lf n l) (whole_bounded bps (rate_within bps h).1) (capacity_clear (Some bps) burst h k)
-    (of_int-fits binary64 (pos (bucket_capacity_of (Some bps) burst))) (whole_bounded len (omega arith)).clear (of_int-fits binary64 (pos len)) (planned_within len s)
+    (of_int-fits binary64 (pos (bucket_capacity_of (Some bps) burst))) (whole_bounded len (omega arith)).clear (of_int-fits binary64 (pos len)) (packet_within len s)
 
 -- with a rate it is at most the capacity
-pub charged_capped : {tokens last now : Float} (bps burst len : ℕ) → is_rate (Some bps) ≡ true → is_bounded burst ≡ true → len ≤ longest_planned
+pub charged_capped : {tokens last now : Float} (bps burst len : ℕ) → is_rate (Some bps) ≡ true → is_bounded burst ≡ true → len ≤ max_length
     → Credit tokens → T (fits binary64 last) → Bounded last → T (fits binary64 now) → Bounded now
     → T (le (charged_of tokens last (Some bps) burst now len) (whole (bucket_capacity_of (Some bps) burst)))
 unfolding charged_of of_int

@@ -18,7 +18,7 @@ use Rattle.device.proofs.device.Device.teardown_in_place.Goals as goal
 -- a drain gives no more copies than a reset tears
 drained_within : (q : ImpairQueue) (d : Handed ℕ) (n : ℕ) → d ≡ drain_of q → d.1 ≡ Ok n → n ≤ max_capacity
 unfolding follow_of torn_of torn_by
-drained_within q d n ed h = (rw (← ed, h) at (follow_bounds 0 q (tables [] [] [] [] [] [] [] [] []) KillRst (whole 0) 0 [])).torn_within
+drained_within q d n ed h = (rw (← ed, h) at (follow_bounds q (tables [] [] [] [] [] [] [] [] []) KillRst (whole 0) 0 [])).torn_within
 
 pub overflow_add-self : goal.overflow_add-self
 unfolding call_refusal first_refusal check_of
