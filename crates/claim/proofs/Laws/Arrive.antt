@@ -134,9 +134,9 @@ module _ (m : Machine) (q : ImpairQueue) (t : Tables) (keeps : Keeps t q (queue_
         followed p decision.0 still.0 decision.1 still.1
 
     -- the device's test of the length is the machine's
-    same_test : (leb (length bytes) q.width && is_length_of (length bytes)) ≡ leb (length bytes) m.width
+    same_short : (leb (length bytes) q.width && is_length_of (length bytes)) ≡ leb (length bytes) m.width
     unfolding is_length_of
-    same_test = rw keeps.same_width (go (leb (length bytes) m.width) refl)
+    same_short = rw keeps.same_width (go (leb (length bytes) m.width) refl)
       where
         go : (b : Bool) → leb (length bytes) m.width ≡ b → (b && is_length_of (length bytes)) ≡ b
         go true h = le-leb (length bytes) max_length (le_trans (leb-true (length bytes) m.width h) (narrow t q (queue_of m) keeps))
@@ -145,7 +145,7 @@ module _ (m : Machine) (q : ImpairQueue) (t : Tables) (keeps : Keeps t q (queue_
     arrive_parts : Agrees (said_by_arrive (arrive_of (device_of m q) t now bytes route)) (step m (arrive now bytes route))
     unfolding arrive_of step arrive_step
     arrive_parts =
-        rw same_test (by_refusal (λ (o : After (Handed Arrived)). Agrees (said_by_arrive o)) m _ (λ (r : Refusal). after (not_arrived (device_of m q) r) t) _ (λ (r : Refusal). record { says = refl; matches = parts_match m q t keeps sound short })
+        rw same_short (by_refusal (λ (o : After (Handed Arrived)). Agrees (said_by_arrive o)) m _ (λ (r : Refusal). after (not_arrived (device_of m q) r) t) _ (λ (r : Refusal). record { says = refl; matches = parts_match m q t keeps sound short })
         q keeps.same_next (memory_of q.width q.cap t) (is_instant_of now) (leb (length bytes) m.width) (long_memory q.width q.cap t keeps.long) decides)
 
 pub arrive_matches : (v : Device) (t : Tables) (m : Machine) → Matches v t m → (now : Float) (bytes : List ℕ) (route : ℕ) → T (fits binary64 now)
