@@ -309,8 +309,8 @@ const FAULTS: [&str; 61] = [
     "--s2c-nat-change-every-ms=0\0", // 9
     "--s2c-kill=1:2:x\0", // 18
     "--c2s-kill=1:2:rst\0", // 20
-    "--mode=tcp\0--c2s-nat-change-every-ms=1\0", // 20
-    "--mode=tcp\0--s2c-duplicate=1\0", // 20
+    "--mode=tcp\0--c2s-nat-change-every-ms=1\0", // 31
+    "--mode=tcp\0--s2c-duplicate=1\0", // 33
 ];
 
 // Lines that are not of the form options HEX.
@@ -345,7 +345,7 @@ fn two_faults() -> Vec<String> {
 }
 
 // So many windows or kills, with one value in the place of each that is named.
-fn list(key: &str, count: usize, named: &[(usize, &str)]) -> String {
+pub fn list(key: &str, count: usize, named: &[(usize, &str)]) -> String {
     let style = if key.ends_with("-kill") { ":rst" } else { "" };
     let value = |place| match named.iter().find(|(at, _)| *at == place) {
         Some((_, value)) => value.to_string(),

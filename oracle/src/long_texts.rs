@@ -20,7 +20,7 @@ pub fn lists(r: &mut SplitMix) -> Vec<u8> {
     }
     if r.percent(10) {
         let tcp = r.percent(50);
-        let second = any_option(r, tcp, Care { slips: 80 });
+        let second = any_option(r, tcp, Care { careless: 80 });
         options.insert(r.below(options.len() + 1), second);
     }
     options.concat().into_bytes()

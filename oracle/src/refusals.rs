@@ -1,4 +1,4 @@
-// Document 01's number for each of the sentences with which the Rust refuses.
+// The number for each of the sentences with which the Rust refuses: document 02's for the three on options under tcp, and document 01's for all others.
 
 use crate::differences::{ABOVE, TOO_MANY};
 
@@ -23,9 +23,9 @@ const WITHOUT_A_VALUE: [(&str, u32); 9] = [
     ("window must be START_MS:END_MS", 15),
     ("window end (", 16),
     ("-kill is TCP-only (", 20),
-    ("-nat-change-every-ms is UDP-only (", 20),
-    ("-reorder is UDP-only: ", 20),
-    ("-duplicate is UDP-only: ", 20),
+    ("-nat-change-every-ms is UDP-only (", 31),
+    ("-reorder is UDP-only: ", 32),
+    ("-duplicate is UDP-only: ", 33),
 ];
 
 // A key stands unquoted in the sentence of 5 alone, and no other sentence ends as that one does; in the others all before the first quote is the Rust's own.

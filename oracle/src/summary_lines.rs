@@ -67,8 +67,8 @@ fn counted(packets: u64, sent: u64, hist: [u64; 12]) -> [u64; 27] {
     counts
 }
 
-// Reports with one float after the other as all three times, with counters that are all 2^60 - 1, whose bars are of one length and of all lengths; lines that are
-// no reports; refusals from 0, a number that none has, to 30; a line that was no call; and 31, a number that none has.
+// Reports with one float after the other as all three times, with counters that are all 2^60 - 1, whose bars are of one length and of all lengths; lines that
+// are no reports; refusals from 0, a number that none has, to 33; a line that was no call; and 34, a number that none has.
 pub fn edges(out: &mut impl Write) -> io::Result<()> {
     let ties = [0.0005, 0.0015, 0.0625, 0.1875, 999.9995, 2.5e-4, 4.9999e-4, 1e23, 5000.0, f64::MIN_POSITIVE];
     for x in FLOATS.into_iter().chain(ties) {
@@ -97,10 +97,10 @@ pub fn edges(out: &mut impl Write) -> io::Result<()> {
     for line in wrong {
         writeln!(out, "{line}")?;
     }
-    for number in 0..=30 {
+    for number in 0..=33 {
         writeln!(out, "refused {number}")?;
     }
-    writeln!(out, "bad line\nbad line \nbad\n\nnone\ntorn 3\nrefused 31")
+    writeln!(out, "bad line\nbad line \nbad\n\nnone\ntorn 3\nrefused 34")
 }
 
 // Reports with counters and times of all sizes.

@@ -70,6 +70,12 @@ pub fn probability(r: &mut SplitMix, care: bool) -> String {
     }
 }
 
+// A probability above 0.
+pub fn some_probability(r: &mut SplitMix) -> String {
+    let any = probability(r, true);
+    if any.parse() == Ok(0.0) { ".000000000000001".to_string() } else { any }
+}
+
 pub fn time(r: &mut SplitMix, care: bool) -> String {
     match (care, r.below(3)) {
         (true, 0) => r.pick(&TIMES).to_string(),

@@ -33,16 +33,16 @@ const ODD_ARGUMENTS: [&str; 10] = ["x", "-x", "-", "", "--", "mode=udp", "--mode
 // How an option's value is drawn: with care all are taken, else some in a hundred are of any kind.
 #[derive(Clone, Copy)]
 pub struct Care {
-    pub slips: usize,
+    pub careless: usize,
 }
 
 impl Care {
     fn draw(r: &mut SplitMix) -> Self {
-        Care { slips: if r.percent(30) { 0 } else { 30 } }
+        Care { careless: if r.percent(30) { 0 } else { 30 } }
     }
 
     fn taken(self, r: &mut SplitMix) -> bool {
-        !r.percent(self.slips)
+        !r.percent(self.careless)
     }
 }
 

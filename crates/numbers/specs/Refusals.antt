@@ -1,8 +1,8 @@
 -- The numbers of the refusals, as document 01 gives them under "Who can cause a refusal", and document 02 with each request.
-use Rattle.std.specs.Prelude.{◌≡◌, ℕ, ◌<◌, ◌⊎◌, Result, MatchResult}
+use Rattle.std.specs.Prelude.{◌≡◌, ℕ, ◌<◌, ◌⊎◌, Bool, true, leb, Result, MatchResult, IfErr}
 use Rattle.numbers.specs.declared.refusal.Refusal.{Refusal}
 use Rattle.numbers.specs.declared.refusal.UnknownRefusal.{UnknownRefusal}
-use Rattle.numbers.specs.declared.refusal.Refusal.TheVariants.{TextLength, TextEnd, Byte, Argument, ValueLacking, Mode, Whole, WholeAbove, Zero, Decimal, Probability, GeParts, GeZero, Reorder, Colon, Window, KillParts, KillStyle, Entries, OtherMode, Instant, Length, Memory, Capacity, Counter, Keeping, Due, Full, Settings, Width}
+use Rattle.numbers.specs.declared.refusal.Refusal.TheVariants.{TextLength, TextEnd, Byte, Argument, ValueLacking, Mode, Whole, WholeAbove, Zero, Decimal, Probability, GeParts, GeZero, Reorder, Colon, Window, KillParts, KillStyle, Entries, KillUnderUdp, Instant, Length, Memory, Capacity, Counter, Keeping, Due, Full, Settings, Width, NatChangeUnderTcp, ReorderUnderTcp, DuplicateUnderTcp}
 
 abbrev pub number_of : Refusal → ℕ
 number_of TextLength = 1
@@ -24,7 +24,7 @@ number_of Window = 16
 number_of KillParts = 17
 number_of KillStyle = 18
 number_of Entries = 19
-number_of OtherMode = 20
+number_of KillUnderUdp = 20
 number_of Instant = 21
 number_of Length = 22
 number_of Memory = 23
@@ -35,10 +35,24 @@ number_of Due = 27
 number_of Full = 28
 number_of Settings = 29
 number_of Width = 30
+number_of NatChangeUnderTcp = 31
+number_of ReorderUnderTcp = 32
+number_of DuplicateUnderTcp = 33
 
 -- the refusal with this number, or that none has it
 abbrev pub Numbers : ℕ → Result Refusal UnknownRefusal → Type 0
-Numbers number r = MatchResult r (λ refusal. number_of refusal ≡ number) (λ e. (e.0 ≡ number) × ((number ≡ 0) ⊎ (30 < number)))
+Numbers number r = MatchResult r (λ refusal. number_of refusal ≡ number) (λ e. (e.0 ≡ number) × ((number ≡ 0) ⊎ (33 < number)))
+
+-- whether a refusal of an option text comes before the mode checks, which are its last
+abbrev pub is_before_mode_checks : Refusal → Bool
+is_before_mode_checks refusal = leb (number_of refusal) 19
+
+abbrev pub BeforeModeChecks : Refusal → Type 0
+BeforeModeChecks refusal = is_before_mode_checks refusal ≡ true
+
+-- what is read is taken, or refused before the mode checks
+abbrev pub EarlyIfRefused : {A : Type 0} → Result A Refusal → Type 0
+EarlyIfRefused r = IfErr r BeforeModeChecks
 
 -- a text that is too long
 abbrev pub refused_text_length : ℕ
@@ -116,9 +130,9 @@ refused_kill_style = 18
 abbrev pub refused_entries : ℕ
 refused_entries = 19
 
--- an option that the mode does not have
-abbrev pub refused_other_mode : ℕ
-refused_other_mode = 20
+-- a kill under udp
+abbrev pub refused_kill_under_udp : ℕ
+refused_kill_under_udp = 20
 
 -- an instant that is none
 abbrev pub refused_instant : ℕ
@@ -159,3 +173,15 @@ refused_settings = 29
 -- a slot width that is out of range
 abbrev pub refused_width : ℕ
 refused_width = 30
+
+-- a change of address under tcp
+abbrev pub refused_nat_change_under_tcp : ℕ
+refused_nat_change_under_tcp = 31
+
+-- reordering under tcp
+abbrev pub refused_reorder_under_tcp : ℕ
+refused_reorder_under_tcp = 32
+
+-- duplicates under tcp
+abbrev pub refused_duplicate_under_tcp : ℕ
+refused_duplicate_under_tcp = 33

@@ -46,8 +46,8 @@ pub enum Refusal {
     KillStyle = 18,
     // More than 128 windows or kills of a direction.
     Entries = 19,
-    // An option of the other mode.
-    OtherMode = 20,
+    // A kill under udp.
+    KillUnderUdp = 20,
     // An instant that is NaN, has its sign bit set or is above 2^53.
     Instant = 21,
     // A packet longer than a slot, or, where there are no slots, than any slot may be.
@@ -68,6 +68,12 @@ pub enum Refusal {
     Settings = 29,
     // A slot width that is out of range.
     Width = 30,
+    // A change of address under tcp.
+    NatChangeUnderTcp = 31,
+    // Reordering under tcp.
+    ReorderUnderTcp = 32,
+    // Duplicates under tcp.
+    DuplicateUnderTcp = 33,
 }
 
 // A number that stands for no refusal.
@@ -109,7 +115,7 @@ impl TryFrom<u32> for Refusal {
             17 => Ok(Refusal::KillParts),
             18 => Ok(Refusal::KillStyle),
             19 => Ok(Refusal::Entries),
-            20 => Ok(Refusal::OtherMode),
+            20 => Ok(Refusal::KillUnderUdp),
             21 => Ok(Refusal::Instant),
             22 => Ok(Refusal::Length),
             23 => Ok(Refusal::Memory),
@@ -120,6 +126,9 @@ impl TryFrom<u32> for Refusal {
             28 => Ok(Refusal::Full),
             29 => Ok(Refusal::Settings),
             30 => Ok(Refusal::Width),
+            31 => Ok(Refusal::NatChangeUnderTcp),
+            32 => Ok(Refusal::ReorderUnderTcp),
+            33 => Ok(Refusal::DuplicateUnderTcp),
             _ => Err(UnknownRefusal(number)),
         }
     }
@@ -148,8 +157,7 @@ impl fmt::Display for Refusal {
             Refusal::KillParts => "a kill has not three parts, START:END:STYLE",
             Refusal::KillStyle => "the style of a kill is neither rst nor hold",
             Refusal::Entries => "a direction has more than 128 blackouts, or more than 128 kills",
-            Refusal::OtherMode =>
-                "an option of the other mode: kill is for tcp; nat-change-every-ms, reorder and duplicate are for udp",
+            Refusal::KillUnderUdp => "a kill under udp; it is an option of tcp alone",
             Refusal::Instant =>
                 "an instant is not a number, has a minus sign or is above 9007199254740992 ms",
             Refusal::Length => "a packet has more bytes than a slot, or more than 9,216",
@@ -161,6 +169,12 @@ impl fmt::Display for Refusal {
             Refusal::Full => "the queue is full",
             Refusal::Settings => "the settings that were handed in are out of range",
             Refusal::Width => "the slot width is below 64 or above 9,216",
+            Refusal::NatChangeUnderTcp =>
+                "nat-change-every-ms under tcp; it is an option of udp alone",
+            Refusal::ReorderUnderTcp =>
+                "reorder is above 0 under tcp; it is an option of udp alone",
+            Refusal::DuplicateUnderTcp =>
+                "duplicate is above 0 under tcp; it is an option of udp alone",
         })
     }
 }

@@ -1,5 +1,6 @@
--- The starred lines about the option text (document 01, "Lines to check"), as theorems about the definitions.
-use Rattle.std.specs.Prelude.{◌≡◌, refl, true, false, Result, Ok, [], ◌∷◌, ◌++◌, Float}
+-- The starred lines about the option text (document 01, "Lines to check"), and a line for each of the mode checks (document 02, Two), as theorems about the
+-- definitions.
+use Rattle.std.specs.Prelude.{◌≡◌, refl, true, false, Result, Ok, List, [], ◌∷◌, ◌++◌, ℕ, Float}
 use Prim.Native.String.{String}
 use Rattle.std.specs.Float.Ieee.{lt, le, div, of_int}
 use Rattle.args.specs.Arguments.{gathered, values_of, last_value_of}
@@ -9,6 +10,7 @@ use Rattle.numbers.specs.declared.refusal.Refusal.{Refusal}
 use Rattle.numbers.specs.declared.refusal.Refusal.TheVariants as refusal
 use Rattle.values.specs.Bytes.{bytes}
 use Rattle.values.specs.Decimal.{decimal_of, parse_f64_ms_of, at_most_one}
+use Rattle.values.specs.Parts.{colons_of}
 use Rattle.values.specs.Whole.{digits_from, parse_u64_of, at_most, not_zero}
 use Rattle.options.specs.declared.config.Config.{Config}
 use Rattle.options.specs.Config.{direction_with, default_direction, default_config}
@@ -56,3 +58,20 @@ option_lines = record {
   holds_ten = refl;
   not_twenty = refl;
 }
+
+-- arguments, each closed by a zero byte
+abbrev pub text_of : List String → List ℕ
+text_of [] = []
+text_of (a ∷ rest) = bytes a ++ (0 ∷ text_of rest)
+
+-- an option that the mode does not have: under udp, which stands where no mode is named, and under tcp
+pub record ModeLines : Type 0 where
+  pub kill : parse_of (text_of ("--s2c-kill=1:2:rst" ∷ [])) ≡ refused_with refusal.KillUnderUdp
+  pub nat_change : parse_of (text_of ("--mode=tcp" ∷ "--s2c-nat-change-every-ms=5" ∷ [])) ≡ refused_with refusal.NatChangeUnderTcp
+  pub reorder : parse_of (text_of ("--mode=tcp" ∷ "--c2s-reorder=1" ∷ "--c2s-reorder-delay-ms=1" ∷ [])) ≡ refused_with refusal.ReorderUnderTcp
+  -- the client's direction comes first, whatever the numbers
+  pub duplicate : parse_of (text_of ("--mode=tcp" ∷ "--c2s-duplicate=1" ∷ "--s2c-nat-change-every-ms=5" ∷ [])) ≡ refused_with refusal.DuplicateUnderTcp
+
+pub mode_lines : ModeLines
+unfolding parse_of config_of unclosed_of judged_text_of line_scalars_of mode_and_seed_of duration_of queue_cap_of verbose_of direction_of combined_of losses_of delay_and_jitter_of delayed_of reorder_delay_of reordering_of delays_of burst_of rate_and_burst_of mtu_of limits_of schedules_of no_entries with_entry entries_of gathered values_of last_value_of decimal_of parse_f64_ms_of at_most_one digits_from parse_u64_of at_most not_zero colons_of lt le div of_int decimal_value
+mode_lines = record { kill = refl; nat_change = refl; reorder = refl; duplicate = refl }

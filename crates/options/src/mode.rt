@@ -25,20 +25,16 @@ impl Mode {
     }
 }
 
-// Refuses kills of datagrams, and what only datagrams have of streams.
+// Refuses the options of a direction that the mode does not have.
 #[tactic(auto, using(numbers::specs::Laws::Literals::zero_is))]
 pub fn other_mode(mode: Mode, config: &DirectionConfig) -> Result<(), Refusal>
     ensures { result ≡ other_mode_of mode config.now }
 {
-    let other = match mode {
-        Mode::Udp => config.tcp_kill_count > 0,
-        Mode::Tcp => {
-            config.nat_change_every_ms > 0 || config.reorder_p > 0.0 || config.duplicate_p > 0.0
-        }
-    };
-    if other {
-        Err(Refusal::OtherMode)
-    } else {
-        Ok(())
+    match mode {
+        Mode::Udp if config.tcp_kill_count > 0 => Err(Refusal::KillUnderUdp),
+        Mode::Tcp if config.nat_change_every_ms > 0 => Err(Refusal::NatChangeUnderTcp),
+        Mode::Tcp if config.reorder_p > 0.0 => Err(Refusal::ReorderUnderTcp),
+        Mode::Tcp if config.duplicate_p > 0.0 => Err(Refusal::DuplicateUnderTcp),
+        _ => Ok(()),
     }
 }

@@ -1,1 +1,2 @@
 pub mod JudgedEntries
+pub mod EarlyEntries

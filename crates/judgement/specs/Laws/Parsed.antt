@@ -3,7 +3,7 @@ use Rattle.std.specs.Prelude.{◌≡◌, refl, Bool, true, false, cond, Option, 
 use Rattle.std.proofs.Common.{arith}
 use Rattle.std.specs.Float.Ieee.{le, of_int}
 use Rattle.numbers.specs.Laws.Both.{both}
-use Rattle.numbers.specs.Laws.Results.{then_taken, read_taken}
+use Rattle.numbers.specs.Laws.Results.{Any, any_taken, then_taken, read_taken}
 use Rattle.numbers.specs.Results.{read_if, read_or}
 use Rattle.numbers.specs.Whole.{whole}
 use Rattle.numbers.specs.declared.refusal.Refusal.{Refusal}
@@ -172,13 +172,6 @@ default_sound = record { c2s_judged = default_judged; s2c_judged = default_judge
 record LinePass (l : LineScalars) : Type 0 where
   duration : is_bounded l.duration_ms ≡ true
   cap : is_positive l.queue_cap ≡ true
-
-abbrev Any : {A : Type 0} → A → Type 0
-Any x = Unit {0}
-
-any_taken : {A : Type 0} (r : Result A Refusal) → IfOk r Any
-any_taken (Ok x) = tt
-any_taken (Err k) = tt
 
 line_pass : (s : List ℕ) → IfOk (line_scalars_of s) LinePass
 unfolding line_scalars_of duration_of queue_cap_of

@@ -4,7 +4,7 @@ use Rattle.std.proofs.lemmas.Bool.{eqb-false, not-true}
 use Rattle.numbers.specs.Checks.{Check, check, first_failing, Test, first_refusal, unless, number_if}
 use Rattle.numbers.specs.Refusals.{number_of}
 use Rattle.numbers.specs.declared.refusal.Refusal.{Refusal}
-use Rattle.numbers.specs.declared.refusal.Refusal.TheVariants.{TextLength, TextEnd, Byte, Argument, ValueLacking, Mode, Whole, WholeAbove, Zero, Decimal, Probability, GeParts, GeZero, Reorder, Colon, Window, KillParts, KillStyle, Entries, OtherMode, Instant, Length, Memory, Capacity, Counter, Keeping, Due, Full, Settings, Width}
+use Rattle.numbers.specs.declared.refusal.Refusal.TheVariants.{TextLength, TextEnd, Byte, Argument, ValueLacking, Mode, Whole, WholeAbove, Zero, Decimal, Probability, GeParts, GeZero, Reorder, Colon, Window, KillParts, KillStyle, Entries, KillUnderUdp, Instant, Length, Memory, Capacity, Counter, Keeping, Due, Full, Settings, Width, NatChangeUnderTcp, ReorderUnderTcp, DuplicateUnderTcp}
 use Rattle.numbers.specs.Laws.Both.{both_true}
 
 -- each test of a list passes
@@ -78,7 +78,7 @@ number_first (t ∷ ts) = go t.passes (number_first ts)
 
 -- no refusal has the number 0
 pub number_some : (e : Refusal) → (number_of e == 0) ≡ false
-number_some = elim [ TextLength ↦ refl | TextEnd ↦ refl | Byte ↦ refl | Argument ↦ refl | ValueLacking ↦ refl | Mode ↦ refl | Whole ↦ refl | WholeAbove ↦ refl | Zero ↦ refl | Decimal ↦ refl | Probability ↦ refl | GeParts ↦ refl | GeZero ↦ refl | Reorder ↦ refl | Colon ↦ refl | Window ↦ refl | KillParts ↦ refl | KillStyle ↦ refl | Entries ↦ refl | OtherMode ↦ refl | Instant ↦ refl | Length ↦ refl | Memory ↦ refl | Capacity ↦ refl | Counter ↦ refl | Keeping ↦ refl | Due ↦ refl | Full ↦ refl | Settings ↦ refl | Width ↦ refl ]
+number_some = elim [ TextLength ↦ refl | TextEnd ↦ refl | Byte ↦ refl | Argument ↦ refl | ValueLacking ↦ refl | Mode ↦ refl | Whole ↦ refl | WholeAbove ↦ refl | Zero ↦ refl | Decimal ↦ refl | Probability ↦ refl | GeParts ↦ refl | GeZero ↦ refl | Reorder ↦ refl | Colon ↦ refl | Window ↦ refl | KillParts ↦ refl | KillStyle ↦ refl | Entries ↦ refl | KillUnderUdp ↦ refl | Instant ↦ refl | Length ↦ refl | Memory ↦ refl | Capacity ↦ refl | Counter ↦ refl | Keeping ↦ refl | Due ↦ refl | Full ↦ refl | Settings ↦ refl | Width ↦ refl | NatChangeUnderTcp ↦ refl | ReorderUnderTcp ↦ refl | DuplicateUnderTcp ↦ refl ]
 
 -- what holds where no refusal comes and of what each refusal gives
 pub unless_has : {A : Type 0} (P : A → Type 0) (r : Result (Unit {0}) Refusal) {done : A} {refused : Refusal → A} → P done → ((e : Refusal) → P (refused e)) → P (unless r done refused)
