@@ -1,12 +1,12 @@
 // The calls of a script.
 use engine_words::Direction;
+use script::Line;
 use script::words::Words;
-use std::alloc::{AllocError, Global};
 
 // What a line asks for.
-#[derive(Debug, PartialEq, Drop)]
-pub enum Call {
-    Options(Vec<u8>),
+#[derive(Clone, Copy, Debug, PartialEq)]
+pub enum Call<'a> {
+    Options(&'a [u8]),
     Create { direction: Direction, seed: u64 },
     Decide { now_ms: f64, len: usize },
     Rebind { now_ms: f64 },
@@ -16,15 +16,15 @@ pub enum Call {
     Stats,
 }
 
-impl Call {
-    // The call of a line, where it is one.
-    pub fn read(alloc: Global, line: &[u8]) -> Result<Option<Self>, AllocError> {
-        script::calls::call_of(alloc, line, Call::Options, of_words)
+impl<'a> Call<'a> {
+    // The call of a line, where it is one; an option text is decoded into `text`.
+    pub fn read(line: &'a Line, text: &'a mut [u8]) -> Option<Self> {
+        script::calls::call_of(line, text, Call::Options, of_words)
     }
 }
 
 // The call that the first word of a line names, with the numbers behind it.
-fn of_words(line: &[u8]) -> Option<Call> {
+fn of_words(line: &[u8]) -> Option<Call<'_>> {
     let mut words = Words::new(line);
     let call = match words.next()? {
         b"engine" => creation(&mut words)?,
@@ -46,7 +46,7 @@ fn of_words(line: &[u8]) -> Option<Call> {
 }
 
 // A direction and a seed.
-fn creation(words: &mut Words<'_>) -> Option<Call> {
+fn creation(words: &mut Words<'_>) -> Option<Call<'static>> {
     Some(Call::Create {
         direction: Direction::of(words.next()?)?,
         seed: words.whole()?,
@@ -54,7 +54,7 @@ fn creation(words: &mut Words<'_>) -> Option<Call> {
 }
 
 // An instant and a length.
-fn arrival(words: &mut Words<'_>) -> Option<Call> {
+fn arrival(words: &mut Words<'_>) -> Option<Call<'static>> {
     Some(Call::Decide {
         now_ms: words.float()?,
         len: words.size()?,

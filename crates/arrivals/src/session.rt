@@ -26,9 +26,9 @@ impl Session {
     }
 
     // Does what a line asks for, and says the answer.
-    pub fn answer<W: Write>(&mut self, out: &mut W, call: Call) -> io::Result<()> {
+    pub fn answer<W: Write>(&mut self, out: &mut W, call: Call<'_>) -> io::Result<()> {
         match call {
-            Call::Options(text) => say(out, self.take(&text).map(|()| "taken")),
+            Call::Options(text) => say(out, self.take(text).map(|()| "taken")),
             Call::Create { direction, seed } => {
                 say(out, self.create(direction, seed).map(|()| "created"))
             }

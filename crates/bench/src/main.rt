@@ -4,13 +4,15 @@
 mod parses;
 mod sends;
 
+use output::Lossy;
+use script::UntilFailure;
 use std::io;
 use std::io::{BufWriter, Write};
 
 fn main(rt: HostRuntime) -> io::Result<()> {
     let alloc = rt.alloc();
-    let mut out = BufWriter::new(alloc, io::writer(&rt))?;
-    let text = bench_sums::read_text(alloc, rt.reader())?;
+    let mut out = BufWriter::new(alloc, Lossy(io::writer(&rt)))?;
+    let text = bench_sums::read_text(alloc, UntilFailure(rt.reader()))?;
     if text.is_empty() {
         sends::run(&mut out)?;
     } else {

@@ -17,12 +17,13 @@ mod widths;
 mod words;
 
 use host::Host;
+use output::Lossy;
 use std::io;
 use std::io::{BufWriter, Write};
 
 fn main(rt: HostRuntime) -> io::Result<()> {
     let alloc = rt.alloc();
-    let mut host = Host::new(alloc, BufWriter::new(alloc, io::writer(&rt))?)?;
+    let mut host = Host::new(alloc, BufWriter::new(alloc, Lossy(io::writer(&rt)))?)?;
     creations::run(&mut host)?;
     order::run(&mut host)?;
     counters::run(&mut host)?;

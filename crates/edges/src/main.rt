@@ -10,11 +10,12 @@ mod order;
 mod states;
 mod words;
 
+use output::Lossy;
 use std::io;
 use std::io::{BufWriter, Write};
 
 fn main(rt: HostRuntime) -> io::Result<()> {
-    let mut out = BufWriter::new(rt.alloc(), io::writer(&rt))?;
+    let mut out = BufWriter::new(rt.alloc(), Lossy(io::writer(&rt)))?;
     limits::say(&mut out)?;
     lists::say(&mut out)?;
     order::say(&mut out)?;

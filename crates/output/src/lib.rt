@@ -4,9 +4,11 @@
 mod answered;
 mod bits;
 mod each;
+mod lossy;
 mod said;
 
 pub use answered::Answered;
 pub use bits::Bits;
 pub use each::Each;
+pub use lossy::Lossy;
 pub use said::say;

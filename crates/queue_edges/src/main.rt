@@ -21,12 +21,13 @@ mod twice;
 mod widths;
 
 use crate::lines::Lines;
+use output::Lossy;
 use std::io;
 use std::io::{BufWriter, Write};
 
 fn main(rt: HostRuntime) -> io::Result<()> {
     let alloc = rt.alloc();
-    let out = BufWriter::new(alloc, io::writer(&rt))?;
+    let out = BufWriter::new(alloc, Lossy(io::writer(&rt)))?;
     let mut lines = Lines { alloc, out };
     creations::capacities(&mut lines)?;
     short::tables(&mut lines)?;

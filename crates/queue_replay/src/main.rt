@@ -4,13 +4,14 @@
 mod request;
 mod session;
 
+use output::Lossy;
 use session::Session;
 use std::io;
 use std::io::BufWriter;
 
 fn main(rt: HostRuntime) -> io::Result<()> {
     let alloc = rt.alloc();
-    let mut out = BufWriter::new(alloc, io::writer(&rt))?;
+    let mut out = BufWriter::new(alloc, Lossy(io::writer(&rt)))?;
     let mut session = Session::new(alloc)?;
     script::lines::answer_calls(alloc, rt.reader(), &mut out, |line, out| {
         session.answer(line, out)

@@ -2,14 +2,11 @@
 use queue::{DEFAULT_WIDTH, Packet};
 use queue_calls::Call;
 use script::words::Words;
-use script::{lines, payload};
+use script::{Line, payload};
 
 // The bytes of a copy that is to enter are made in `room`.
-pub fn call_of<'a>(line: &[u8], room: &'a mut [u8]) -> Option<Call<'a>> {
-    if line.len() > lines::LONGEST {
-        return None;
-    }
-    let mut words = Words::new(line);
+pub fn call_of<'a>(line: &Line, room: &'a mut [u8]) -> Option<Call<'a>> {
+    let mut words = Words::new(line.whole()?);
     let call = match words.next()? {
         b"queue" => creation(&mut words)?,
         b"push" => push(&mut words, room)?,

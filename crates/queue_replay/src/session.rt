@@ -2,6 +2,7 @@
 use crate::request;
 use queue::ImpairQueue;
 use queue_calls::{Memory, Told};
+use script::Line;
 use std::alloc::{AllocError, Global};
 use std::io;
 use std::io::Write;
@@ -33,7 +34,7 @@ impl Session {
     }
 
     // Makes the call that a line asks for, and says its answer; false where the line is no call.
-    pub fn answer<W: Write>(&mut self, line: &[u8], out: &mut W) -> io::Result<bool> {
+    pub fn answer<W: Write>(&mut self, line: &Line, out: &mut W) -> io::Result<bool> {
         let Some(call) = request::call_of(line, &mut self.room) else {
             return Ok(false);
         };

@@ -9,13 +9,14 @@ mod list;
 mod runs;
 
 use crate::counts::TallyWords;
+use output::Lossy;
 use std::alloc::Global;
 use std::io;
 use std::io::{BufWriter, Write};
 
 fn main(rt: HostRuntime) -> io::Result<()> {
     let alloc = rt.alloc();
-    let mut out = BufWriter::new(alloc, io::writer(&rt))?;
+    let mut out = BufWriter::new(alloc, Lossy(io::writer(&rt)))?;
     capacities(alloc, &mut out)?;
     widths(alloc, &mut out)?;
     out.flush()

@@ -1,8 +1,8 @@
 // The calls of a script.
 use device::DEFAULT_WIDTH;
 use engine_words::Direction;
+use script::Line;
 use script::words::Words;
-use std::alloc::{AllocError, Global};
 
 // A packet that arrives; its bytes are made from their number and a seed.
 #[derive(Clone, Copy, Debug, PartialEq, Eq)]
@@ -13,9 +13,9 @@ pub struct Packet {
 }
 
 // What a line asks for.
-#[derive(Debug, PartialEq, Drop)]
-pub enum Call {
-    Options(Vec<u8>),
+#[derive(Clone, Copy, Debug, PartialEq)]
+pub enum Call<'a> {
+    Options(&'a [u8]),
     Create {
         direction: Direction,
         salt: u64,
@@ -36,15 +36,15 @@ pub enum Call {
     Report,
 }
 
-impl Call {
-    // The call of a line, where it is one.
-    pub fn read(alloc: Global, line: &[u8]) -> Result<Option<Self>, AllocError> {
-        script::calls::call_of(alloc, line, Call::Options, of_words)
+impl<'a> Call<'a> {
+    // The call of a line, where it is one; an option text is decoded into `text`.
+    pub fn read(line: &'a Line, text: &'a mut [u8]) -> Option<Self> {
+        script::calls::call_of(line, text, Call::Options, of_words)
     }
 }
 
 // The call that the first word of a line names, with the numbers behind it.
-fn of_words(line: &[u8]) -> Option<Call> {
+fn of_words(line: &[u8]) -> Option<Call<'_>> {
     let mut words = Words::new(line);
     let call = match words.next()? {
         b"create" => creation(&mut words)?,
@@ -63,7 +63,7 @@ fn of_words(line: &[u8]) -> Option<Call> {
 }
 
 // A direction, a salt, a capacity and a slot width, which may be left out.
-fn creation(words: &mut Words<'_>) -> Option<Call> {
+fn creation(words: &mut Words<'_>) -> Option<Call<'static>> {
     Some(Call::Create {
         direction: Direction::of(words.next()?)?,
         salt: words.whole()?,
@@ -73,7 +73,7 @@ fn creation(words: &mut Words<'_>) -> Option<Call> {
 }
 
 // An instant, a length, a route and a seed.
-fn arrival(words: &mut Words<'_>) -> Option<Call> {
+fn arrival(words: &mut Words<'_>) -> Option<Call<'static>> {
     let now_ms = words.float()?;
     let packet = Packet {
         len: words.whole()?,

@@ -1,1 +1,3 @@
 pub mod Reading
+pub mod Cutting
+pub mod Ending

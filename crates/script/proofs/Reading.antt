@@ -1,7 +1,8 @@
 -- What the loops over digits come to.
-use Rattle.std.proofs.Common.{◌≡◌, ℕ, ◌+◌, ◌-◌, ◌*◌, ◌^◌, ◌<◌, ◌≤◌, List, [], ◌∷◌, ◌++◌, length, get_or, take, drop, Some, refl, arith, add-one, pow-suc, lit<}
-use Rattle.std.proofs.lemmas.List.{take_all, length-drop}
-use Rattle.script.specs.Hex.{pair_of, decode_from}
+use Rattle.std.proofs.Common.{◌≡◌, ℕ, ◌+◌, ◌-◌, ◌*◌, ◌^◌, ◌<◌, ◌≤◌, List, [], ◌∷◌, ◌++◌, true, ◌==◌, eqb-true, length-take-le, length, get_or, slice_set, take, drop, Some, None, refl, sym, ap, ◌∙◌, arith, add-one, pow-suc, lit<, append_assoc, take_at, option_map, option_and_then}
+use Rattle.std.proofs.lemmas.List.{take_all, length-drop, length-set, take_more_set}
+use Rattle.std.specs.Prelude.{Option}
+use Rattle.script.specs.Hex.{pair_of, decode_from, decode_of}
 use native.Mathlib.Nat.{pow-le-pow_right}
 
 -- all that is left behind a place
@@ -25,3 +26,42 @@ unfolding decode_from
 goes t [] p h e = absurd (omega arith)
 goes t (a ∷ []) p h e = absurd (omega arith)
 goes t (a ∷ b ∷ s) p h e = rw (to_end (a ∷ b ∷ s) 2, e) refl
+
+-- where n bytes are there already, the first n are the same whatever follows them
+pub full : (n : ℕ) (t u d : List ℕ) → length t ≡ n → option_map (take n) (decode_from (t ++ u) d) ≡ option_map (take n) (decode_from t d)
+unfolding decode_from
+full n t u [] e = ap Some (take_at t u n e ∙ sym (take_all n t (omega arith)))
+full n t u (a ∷ []) e = refl
+full n t u (a ∷ b ∷ d) e = at (pair_of a b) (λ v. full n t v d e)
+  where
+    at : (o : Option ℕ) → ((v : List ℕ) → option_map (take n) (decode_from (t ++ v) d) ≡ option_map (take n) (decode_from t d))
+        → option_map (take n) (option_and_then (λ byte. decode_from ((t ++ u) ++ (byte ∷ [])) d) o) ≡ option_map (take n) (option_and_then (λ byte. decode_from (t ++ (byte ∷ [])) d) o)
+    at None r = refl
+    at (Some byte) r = rw append_assoc (r (u ++ (byte ∷ [])) ∙ sym (r (byte ∷ [])))
+
+-- the step of the loop: two digits go, and their byte is put behind those that are there
+pub stores : (text rest digits : List ℕ) (count byte : ℕ) → count < length text → 2 ≤ length rest → pair_of (get_or rest 0 0) (get_or rest 1 0) ≡ Some byte
+    → option_map (take (length text)) (decode_from (take count text) rest) ≡ option_map (take (length text)) (decode_of digits)
+    → option_map (take (length (slice_set text count byte))) (decode_from (take (count + 1) (slice_set text count byte)) (take (length rest - 2) (drop 2 rest)))
+    ≡ option_map (take (length (slice_set text count byte))) (decode_of digits)
+stores text rest digits count byte h k is same =
+    rw (length-set text count byte, take_more_set text count byte h) (ap (option_map (take (length text))) (goes (take count text) rest byte k is) ∙ same)
+
+-- or there is no room for it
+pub passes : (text rest digits : List ℕ) (count byte : ℕ) → length text ≤ count → count ≤ length text → 2 ≤ length rest → pair_of (get_or rest 0 0) (get_or rest 1 0) ≡ Some byte
+    → option_map (take (length text)) (decode_from (take count text) rest) ≡ option_map (take (length text)) (decode_of digits)
+    → option_map (take (length text)) (decode_from (take count text) (take (length rest - 2) (drop 2 rest))) ≡ option_map (take (length text)) (decode_of digits)
+passes text rest digits count byte h within k is same =
+    let long : length (take count text) ≡ length text = omega (arith, length-take-le count text within) in
+    sym (full (length text) (take count text) (byte ∷ []) (take (length rest - 2) (drop 2 rest)) long)
+    ∙ ap (option_map (take (length text))) (goes (take count text) rest byte k is) ∙ same
+
+-- the end of the loop
+pub ends : (text rest digits : List ℕ) (count n : ℕ) → (length rest == 0) ≡ true → count ≤ length text → length text ≡ n
+    → option_map (take (length text)) (decode_from (take count text) rest) ≡ option_map (take (length text)) (decode_of digits)
+    → Some (take count text) ≡ option_map (take n) (decode_of digits)
+unfolding decode_from
+ends text [] digits count n none within long same =
+    ap Some (sym (take_all (length text) (take count text) (omega (arith, length-take-le count text within))))
+    ∙ same ∙ ap (λ (m : ℕ). option_map (take m) (decode_of digits)) long
+ends text (x ∷ rest) digits count n none within long same = absurd (omega (arith, eqb-true (length (x ∷ rest)) 0 none))

@@ -11,15 +11,16 @@ mod report;
 mod report_line;
 mod scenario;
 
+use output::Lossy;
 use std::io;
 use std::io::BufWriter;
 
 fn main(rt: HostRuntime) -> io::Result<()> {
     let alloc = rt.alloc();
-    let mut out = BufWriter::new(alloc, io::writer(&rt))?;
+    let mut out = BufWriter::new(alloc, Lossy(io::writer(&rt)))?;
     let mut number = 0u64;
     script::lines::answer_lines(alloc, rt.reader(), &mut out, |line, out| {
         number = number.saturating_add(1);
-        answers::show(out, number, line)
+        answers::show(out, number, line.kept())
     })
 }

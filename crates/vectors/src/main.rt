@@ -16,11 +16,12 @@ mod records;
 mod refusals;
 mod samples;
 
+use output::Lossy;
 use std::io;
 use std::io::{BufWriter, Write};
 
 fn main(rt: HostRuntime) -> io::Result<()> {
-    let mut out = BufWriter::new(rt.alloc(), io::writer(&rt))?;
+    let mut out = BufWriter::new(rt.alloc(), Lossy(io::writer(&rt)))?;
     papers::splitmix64(&mut out)?;
     papers::xorshift64star(&mut out)?;
     document::seed_one(&mut out)?;
