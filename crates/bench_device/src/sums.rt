@@ -1,6 +1,6 @@
 // What the calls answer, summed up, so that none of their work can be left out.
 use bench_sums::{add, bits, number};
-use device::{Arrived, Report};
+use device::{Arrived, RefusedReport, Report};
 use numbers::Refusal;
 use queue::Queued;
 
@@ -37,15 +37,9 @@ pub(crate) fn has_left(answer: Result<Option<Queued>, Refusal>) -> bool {
     matches!(answer, Ok(Some(_)))
 }
 
-// The sum with the counts and latencies of a report; one that is refused adds its number.
-pub(crate) fn with_report(sum: u64, answer: Result<Report, Refusal>) -> u64 {
-    match answer {
-        Ok(report) => with_counts(sum, report),
-        Err(refusal) => add(sum, number(refusal)),
-    }
-}
-
-fn with_counts(sum: u64, report: Report) -> u64 {
+// The sum with the counts and latencies of a report, and with those told beside the refusal of one.
+pub(crate) fn with_report(sum: u64, answer: Result<Report, RefusedReport>) -> u64 {
+    let report = answer.unwrap_or_else(|refused| refused.report);
     let s = report.stats;
     let counts = [
         s.received_pkts,

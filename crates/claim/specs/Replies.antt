@@ -7,6 +7,7 @@ use Rattle.queue.specs.declared.answers.Queued.{Queued}
 use Rattle.queue_laws.specs.Replies.{copy_of}
 use Rattle.machine.specs.Calls.{Answer, decided, released, none_due, rebound, tore_down, reported, refused}
 use Rattle.device.specs.declared.arrive.Arrived.{Arrived}
+use Rattle.device.specs.declared.report.RefusedReport.{RefusedReport}
 use Rattle.device.specs.declared.report.Report.{Report}
 
 -- what a call gives is said by its own case, and a refusal by its number
@@ -30,5 +31,7 @@ said_of_rebind = told rebound
 abbrev pub said_of_teardown : Result ℕ Refusal → Answer
 said_of_teardown = told tore_down
 
-abbrev pub said_of_report : Result Report Refusal → Answer
-said_of_report = told (λ r. reported r.stats r.held r.torn)
+-- what is told beside a report's refusal says nothing
+abbrev pub said_of_report : Result Report RefusedReport → Answer
+said_of_report (Ok r) = reported r.stats r.held r.torn
+said_of_report (Err e) = refused (number_of e.refusal)

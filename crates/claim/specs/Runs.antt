@@ -18,6 +18,7 @@ use Rattle.queue.specs.declared.answers.Queued.{Queued}
 use Rattle.machine.specs.Calls.{Call, arrive as arrive_call, release as release_call, rebind as rebind_call, teardown as teardown_call, report as report_call, Answer, released, none_due, refused}
 use Rattle.device.specs.Parts.{Handed}
 use Rattle.device.specs.declared.arrive.Arrived.{Arrived}
+use Rattle.device.specs.declared.report.RefusedReport.{RefusedReport}
 use Rattle.device.specs.declared.report.Report.{Report}
 use Rattle.device.specs.declared.device.Device.{Device}
 use Rattle.device.specs.contracts.device.Device.create as create_fn
@@ -26,15 +27,27 @@ use Rattle.device.proofs.device.Device.create.Kinds as create_kinds
 use Rattle.device.specs.contracts.device.Device.arrive as arrive_fn
 use Rattle.device.proofs.device.Device.arrive.Reads as arrive
 use Rattle.device.proofs.device.Device.arrive.Kinds as arrive_kinds
+use Rattle.device.specs.contracts.device.Device.arrive_in_place as arrive_in_place_fn
+use Rattle.device.proofs.device.Device.arrive_in_place.Reads as arrive_in_place
+use Rattle.device.proofs.device.Device.arrive_in_place.Kinds as arrive_in_place_kinds
 use Rattle.device.specs.contracts.device.Device.release as release_fn
 use Rattle.device.proofs.device.Device.release.Reads as release
 use Rattle.device.proofs.device.Device.release.Kinds as release_kinds
+use Rattle.device.specs.contracts.device.Device.release_in_place as release_in_place_fn
+use Rattle.device.proofs.device.Device.release_in_place.Reads as release_in_place
+use Rattle.device.proofs.device.Device.release_in_place.Kinds as release_in_place_kinds
 use Rattle.device.specs.contracts.device.Device.rebind as rebind_fn
 use Rattle.device.proofs.device.Device.rebind.Reads as rebind
 use Rattle.device.proofs.device.Device.rebind.Kinds as rebind_kinds
+use Rattle.device.specs.contracts.device.Device.rebind_in_place as rebind_in_place_fn
+use Rattle.device.proofs.device.Device.rebind_in_place.Reads as rebind_in_place
+use Rattle.device.proofs.device.Device.rebind_in_place.Kinds as rebind_in_place_kinds
 use Rattle.device.specs.contracts.device.Device.teardown as teardown_fn
 use Rattle.device.proofs.device.Device.teardown.Reads as teardown
 use Rattle.device.proofs.device.Device.teardown.Kinds as teardown_kinds
+use Rattle.device.specs.contracts.device.Device.teardown_in_place as teardown_in_place_fn
+use Rattle.device.proofs.device.Device.teardown_in_place.Reads as teardown_in_place
+use Rattle.device.proofs.device.Device.teardown_in_place.Kinds as teardown_in_place_kinds
 use Rattle.device.specs.contracts.device.Device.report as report_fn
 use Rattle.device.proofs.device.Device.report.Reads as report
 use Rattle.device.proofs.device.Device.report.Kinds as report_kinds
@@ -63,8 +76,8 @@ pub data Creates (cfg : DirectionConfig) (seed salt cap width : ℕ) (t : Tables
       → create.Learnt κs a r s
       → Creates cfg seed salt cap width t r
 
--- a call of `arrive` on the device v and the tables t returned r and left tables; the free slots are only read, and the instant is a number of binary64, as every
--- f64 is
+-- a call of `arrive` on the device v and the tables t, or of `arrive_in_place`, which leaves the device where it was, returned r and left tables; the free slots
+-- are only read, and the instant is a number of binary64, as every f64 is
 pub data Arrives (v : Device) (t : Tables) (instant : Float) (bytes : List ℕ) (route : ℕ) : Handed Arrived → Tables → Type 1 where
   called : (κs : Lifetimes.Lfts 6) (a : World.ArgsD arrive_fn.signature κs) (r : World.ResD arrive_fn.signature κs) (s : Clauses.AtExit (Kinds'.ended_of 6 arrive_kinds.ps arrive_kinds.r) κs)
       → T (fits binary64 instant)
@@ -74,29 +87,50 @@ pub data Arrives (v : Device) (t : Tables) (instant : Float) (bytes : List ℕ) 
       → a.1.1.1.1.1.1.0 ≡ route
       → arrive.Learnt κs a r s
       → Arrives v t instant bytes route r (entry_tables s.1.0.now a.1.1.0.now s.1.1.1.0.now)
+  called_in_place : (κs : Lifetimes.Lfts 7) (a : World.ArgsD arrive_in_place_fn.signature κs) (r : World.ResD arrive_in_place_fn.signature κs) (s : Clauses.AtExit (Kinds'.ended_of 7 arrive_in_place_kinds.ps arrive_in_place_kinds.r) κs)
+      → T (fits binary64 instant)
+      → a.0.now ≡ v → entry_tables a.1.0.now a.1.1.0.now a.1.1.1.0.now ≡ t
+      → a.1.1.1.1.0 ≡ instant
+      → a.1.1.1.1.1.0.now ≡ bytes
+      → a.1.1.1.1.1.1.0 ≡ route
+      → arrive_in_place.Learnt κs a r s
+      → Arrives v t instant bytes route (s.0.now, r) (entry_tables s.1.0.now a.1.1.0.now s.1.1.1.0.now)
 
--- a call of `release` at an instant; the copies are only read
+-- a call of `release` or of `release_in_place` at an instant; the copies are only read
 pub data Releases (v : Device) (t : Tables) (instant : Float) : Handed (Option Queued) → Tables → Type 1 where
   called : (κs : Lifetimes.Lfts 4) (a : World.ArgsD release_fn.signature κs) (r : World.ResD release_fn.signature κs) (s : Clauses.AtExit (Kinds'.ended_of 4 release_kinds.ps release_kinds.r) κs)
       → a.0 ≡ v → exit_tables a.1.0.now a.1.1.0.now a.1.1.1.0 ≡ t
       → a.1.1.1.1.0 ≡ instant
       → release.Learnt κs a r s
       → Releases v t instant r (exit_tables s.1.0.now s.1.1.0.now a.1.1.1.0)
+  called_in_place : (κs : Lifetimes.Lfts 5) (a : World.ArgsD release_in_place_fn.signature κs) (r : World.ResD release_in_place_fn.signature κs) (s : Clauses.AtExit (Kinds'.ended_of 5 release_in_place_kinds.ps release_in_place_kinds.r) κs)
+      → a.0.now ≡ v → exit_tables a.1.0.now a.1.1.0.now a.1.1.1.0 ≡ t
+      → a.1.1.1.1.0 ≡ instant
+      → release_in_place.Learnt κs a r s
+      → Releases v t instant (s.0.now, r) (exit_tables s.1.0.now s.1.1.0.now a.1.1.1.0)
 
--- calls of `rebind`, `teardown` and `report`, which are lent no table; a report is lent the device
+-- calls of `rebind`, `teardown` and `report`, or of the first two in place, which are lent no table; a report is lent the device
 pub data Rebinds (v : Device) (instant : Float) : Handed Bool → Type 1 where
   called : (κs : Lifetimes.Lfts 0) (a : World.ArgsD rebind_fn.signature κs) (r : World.ResD rebind_fn.signature κs) (s : Clauses.AtExit (Kinds'.ended_of 0 rebind_kinds.ps rebind_kinds.r) κs)
       → a.0 ≡ v → a.1.0 ≡ instant
       → rebind.Learnt κs a r s
       → Rebinds v instant r
+  called_in_place : (κs : Lifetimes.Lfts 1) (a : World.ArgsD rebind_in_place_fn.signature κs) (r : World.ResD rebind_in_place_fn.signature κs) (s : Clauses.AtExit (Kinds'.ended_of 1 rebind_in_place_kinds.ps rebind_in_place_kinds.r) κs)
+      → a.0.now ≡ v → a.1.0 ≡ instant
+      → rebind_in_place.Learnt κs a r s
+      → Rebinds v instant (s.0.now, r)
 
 pub data TearsDown (v : Device) : Handed ℕ → Type 1 where
   called : (κs : Lifetimes.Lfts 0) (a : World.ArgsD teardown_fn.signature κs) (r : World.ResD teardown_fn.signature κs) (s : Clauses.AtExit (Kinds'.ended_of 0 teardown_kinds.ps teardown_kinds.r) κs)
       → a.0 ≡ v
       → teardown.Learnt κs a r s
       → TearsDown v r
+  called_in_place : (κs : Lifetimes.Lfts 1) (a : World.ArgsD teardown_in_place_fn.signature κs) (r : World.ResD teardown_in_place_fn.signature κs) (s : Clauses.AtExit (Kinds'.ended_of 1 teardown_in_place_kinds.ps teardown_in_place_kinds.r) κs)
+      → a.0.now ≡ v
+      → teardown_in_place.Learnt κs a r s
+      → TearsDown v (s.0.now, r)
 
-pub data Reports (v : Device) : Result Report Refusal → Type 1 where
+pub data Reports (v : Device) : Result Report RefusedReport → Type 1 where
   called : (κs : Lifetimes.Lfts 1) (a : World.ArgsD report_fn.signature κs) (r : World.ResD report_fn.signature κs) (s : Clauses.AtExit (Kinds'.ended_of 1 report_kinds.ps report_kinds.r) κs)
       → a.0.now ≡ v
       → report.Learnt κs a r s
@@ -127,7 +161,7 @@ pub data Answered (v : Device) (t : Tables) : Call → Answer → Device → Tab
   rebinds : {instant : Float} {r : Handed Bool} → Rebinds v instant r → Answered v t (rebind_call instant) (said_of_rebind r.1) r.0 t
   tears_down : {r : Handed ℕ} → TearsDown v r → Answered v t teardown_call (said_of_teardown r.1) r.0 t
   -- a report hands back no device: the host goes on with the one that it has
-  reports : {r : Result Report Refusal} → Reports v r → Answered v t report_call (said_of_report r) v t
+  reports : {r : Result Report RefusedReport} → Reports v r → Answered v t report_call (said_of_report r) v t
 
 -- a run over a list of calls, each on what the last one left, with its answers
 pub data Ran : Device → Tables → List Call → List Answer → Type 1 where

@@ -12,6 +12,7 @@ use Rattle.queue.specs.declared.queue.ImpairQueue.{ImpairQueue}
 use Rattle.device.specs.Parts.{Handed, with_engine, with_queue}
 use Rattle.device.specs.Refusals.{call_refusal}
 use Rattle.device.specs.declared.device.Device.{Device}
+use Rattle.device.specs.declared.report.RefusedReport.{RefusedReport}
 use Rattle.device.specs.declared.report.Report.{Report}
 
 -- ---- rebind: the engine's `should_rebind_now`; settings that it refuses were altered: 26
@@ -51,11 +52,15 @@ teardown_of v =
 abbrev pub reported_with : Device → DirectionStats → Report
 reported_with v s = record { stats = s; held = v.queue.held; torn = v.torn }
 
-unfoldable pub reported_by : Result (Unit {0}) Refusal → Device → DirectionStats → Result Report Refusal
-reported_by (Ok u) v s = Ok (reported_with v s)
-reported_by (Err k) v s = Err k
+-- beside a refusal stand the statistics of the engine alone, and the numbers held and torn
+abbrev pub refused_report_of : Device → Refusal → RefusedReport
+refused_report_of v e = record { refusal = e; report = reported_with v v.engine.stats }
 
-unfoldable pub report_of : Device → Result Report Refusal
+unfoldable pub reported_by : Result (Unit {0}) Refusal → Device → DirectionStats → Result Report RefusedReport
+reported_by (Ok u) v s = Ok (reported_with v s)
+reported_by (Err e) v s = Err (refused_report_of v e)
+
+unfoldable pub report_of : Device → Result Report RefusedReport
 report_of v =
     let m = merge_into_of v.accounts v.engine.stats in
-    unless (call_refusal v true true true) (reported_by m.1 v m.0) (λ e. Err e)
+    unless (call_refusal v true true true) (reported_by m.1 v m.0) (λ e. Err (refused_report_of v e))

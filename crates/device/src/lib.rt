@@ -13,4 +13,4 @@ mod teardown;
 pub use arrive::Arrived;
 pub use device::Device;
 pub use queue::{DEFAULT_WIDTH, payload};
-pub use report::Report;
+pub use report::{RefusedReport, Report};

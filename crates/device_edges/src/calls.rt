@@ -83,7 +83,7 @@ impl<W: Write + Drop> Host<W> {
     }
 
     pub fn report(&mut self) -> io::Result<()> {
-        let answer = self.device.report();
+        let answer = self.device.report().map_err(|refused| refused.refusal);
         self.tell(Answered(answer.map(ReportWords)))
     }
 

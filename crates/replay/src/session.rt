@@ -1,7 +1,7 @@
 // The device that a script calls.
 use crate::calls::{Call, Packet};
 use crate::report::Reported;
-use device::{Arrived, DEFAULT_WIDTH, Device};
+use device::{Arrived, DEFAULT_WIDTH, Device, Report};
 use device_words::{Happened, Torn, lent};
 use engine_words::{Direction, Flagged};
 use numbers::Refusal;
@@ -50,9 +50,9 @@ impl Session {
     }
 
     // Does what a line asks for, and says the answer.
-    pub fn answer<W: Write>(&mut self, out: &mut W, call: Call) -> io::Result<()> {
+    pub fn answer<W: Write>(&mut self, out: &mut W, call: Call<'_>) -> io::Result<()> {
         match call {
-            Call::Options(text) => self.say_options(out, &text),
+            Call::Options(text) => self.say_options(out, text),
             Call::Create {
                 direction,
                 salt,
@@ -69,7 +69,7 @@ impl Session {
                 self.rebind(now_ms).map(|yes| Flagged("rebind ", yes)),
             ),
             Call::Teardown => say(out, self.teardown().map(Torn)),
-            Call::Report => say(out, self.device.report().map(Reported)),
+            Call::Report => say(out, self.report().map(Reported)),
         }
     }
 
@@ -120,6 +120,10 @@ impl Session {
 
     fn teardown(&mut self) -> Result<u64, Refusal> {
         self.keep(self.device.teardown())
+    }
+
+    fn report(&self) -> Result<Report, Refusal> {
+        self.device.report().map_err(|refused| refused.refusal)
     }
 
     // Keeps the device that a call gave; the answer is the call's. By value: the form that document 01 gives the calls.

@@ -27,9 +27,10 @@ use Rattle.queue_laws.specs.Replies.{said_of_drain}
 use Rattle.machine.specs.Calls.{rebind, rebound, teardown, tore_down, report, reported}
 use Rattle.machine.specs.Machine.{Machine}
 use Rattle.machine.specs.Steps.{step_to, with_engine, tear, rebind_step, teardown_step, report_step, step}
-use Rattle.device.specs.Others.{not_rebound, rebound_by, rebind_of, not_torn, torn_by, teardown_of, reported_by, report_of}
+use Rattle.device.specs.Others.{not_rebound, rebound_by, rebind_of, not_torn, torn_by, teardown_of, refused_report_of, reported_by, report_of}
 use Rattle.device.specs.Parts.{Handed}
 use Rattle.device.specs.declared.device.Device.{Device}
+use Rattle.device.specs.declared.report.RefusedReport.{RefusedReport}
 use Rattle.device.specs.declared.report.Report.{Report}
 use Rattle.claim.specs.Replies.{said_of_rebind, said_of_teardown, said_of_report}
 use Rattle.claim.proofs.Laws.Answers.{said, said_by}
@@ -95,7 +96,7 @@ module _ (m : Machine) (q : ImpairQueue) (t : Tables) (keeps : Keeps t q (queue_
   report_parts : Agrees (said (said_of_report (report_of (device_of m q))) (device_of m q) t) (step m report)
   unfolding report_of reported_by step report_step
   report_parts =
-      by_refusal (λ (r : Result Report Refusal). Agrees (said (said_of_report r) (device_of m q) t)) m _ (λ (r : Refusal). Err r) _ (λ (r : Refusal). record { says = refl; matches = matching })
+      by_refusal (λ (r : Result Report RefusedReport). Agrees (said (said_of_report r) (device_of m q) t)) m _ (λ (r : Refusal). Err (refused_report_of (device_of m q) r)) _ (λ (r : Refusal). record { says = refl; matches = matching })
       q keeps.same_next true true true refl
       (λ (p : Passed m true true).
       rw (merge_done m.accounts m.engine.stats (both _ _ p.accounts (both_true (is_counter_of m.engine.rebinds_done) (are_counters (stats_counters m.engine.stats)) p.engine).1))

@@ -18,6 +18,7 @@ use Rattle.device.specs.Release.{release_of}
 use Rattle.device.specs.Others.{rebind_of, teardown_of, report_of}
 use Rattle.device.specs.Parts.{Handed}
 use Rattle.device.specs.declared.arrive.Arrived.{Arrived}
+use Rattle.device.specs.declared.report.RefusedReport.{RefusedReport}
 use Rattle.device.specs.declared.report.Report.{Report}
 use Rattle.device.specs.declared.device.Device.{Device}
 use Rattle.claim.specs.Replies.{said_of_release, said_of_rebind, said_of_teardown, said_of_report}
@@ -32,20 +33,25 @@ creates_is (Creates.called κs a r s ec es el en ew et h) = h ∙ (λ i. create_
 
 arrives_is : {v : Device} {t : Tables} {instant : Float} {bytes : List ℕ} {route : ℕ} {r : Handed Arrived} {t' : Tables} → Arrives v t instant bytes route r t' → after r t' ≡ arrive_of v t instant bytes route
 arrives_is (Arrives.called κs a r s fit ev et ei eb er h) = h.0 ∙ (λ i. arrive_of (ev i) (et i) (ei i) (eb i) (er i))
+arrives_is (Arrives.called_in_place κs a r s fit ev et ei eb er h) = h.0 ∙ (λ i. arrive_of (ev i) (et i) (ei i) (eb i) (er i))
 
 arrives_fit : {v : Device} {t : Tables} {instant : Float} {bytes : List ℕ} {route : ℕ} {r : Handed Arrived} {t' : Tables} → Arrives v t instant bytes route r t' → T (fits binary64 instant)
 arrives_fit (Arrives.called κs a r s fit ev et ei eb er h) = fit
+arrives_fit (Arrives.called_in_place κs a r s fit ev et ei eb er h) = fit
 
 releases_is : {v : Device} {t : Tables} {instant : Float} {r : Handed (Option Queued)} {t' : Tables} → Releases v t instant r t' → after r t' ≡ release_of v t instant
 releases_is (Releases.called κs a r s ev et ei h) = h.0 ∙ (λ i. release_of (ev i) (et i) (ei i))
+releases_is (Releases.called_in_place κs a r s ev et ei h) = h.0 ∙ (λ i. release_of (ev i) (et i) (ei i))
 
 rebinds_is : {v : Device} {instant : Float} {r : Handed Bool} → Rebinds v instant r → r ≡ rebind_of v instant
 rebinds_is (Rebinds.called κs a r s ev ei h) = h ∙ (λ i. rebind_of (ev i) (ei i))
+rebinds_is (Rebinds.called_in_place κs a r s ev ei h) = h ∙ (λ i. rebind_of (ev i) (ei i))
 
 tears_is : {v : Device} {r : Handed ℕ} → TearsDown v r → r ≡ teardown_of v
 tears_is (TearsDown.called κs a r s ev h) = h ∙ ap teardown_of ev
+tears_is (TearsDown.called_in_place κs a r s ev h) = h ∙ ap teardown_of ev
 
-reports_is : {v : Device} {r : Result Report Refusal} → Reports v r → r ≡ report_of v
+reports_is : {v : Device} {r : Result Report RefusedReport} → Reports v r → r ≡ report_of v
 reports_is (Reports.called κs a r s ev h) = h ∙ ap report_of ev
 
 reads_is : {store : List ℕ} {width slot len : ℕ} {bytes : List ℕ} → Reads store width slot len bytes → bytes ≡ payload_of width store slot len
@@ -62,7 +68,7 @@ answered_is (arrives x) = ap said_by_arrive (arrives_is x)
 answered_is (releases {t' = t'} {r = r} x a) = (λ i. said (says_is a i) r.0 t') ∙ ap said_by_release (releases_is x)
 answered_is {t = t} (rebinds x) = ap (said_by said_of_rebind t) (rebinds_is x)
 answered_is {t = t} (tears_down x) = ap (said_by said_of_teardown t) (tears_is x)
-answered_is {v = v} {t = t} (reports x) = ap (λ (o : Result Report Refusal). said (said_of_report o) v t) (reports_is x)
+answered_is {v = v} {t = t} (reports x) = ap (λ (o : Result Report RefusedReport). said (said_of_report o) v t) (reports_is x)
 
 pub ran_is : {v : Device} {t : Tables} {cs : List Call} {rs : List Answer} → Ran v t cs rs → rs ≡ answers_to v t cs
 unfolding answers_to
