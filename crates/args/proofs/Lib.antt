@@ -1,3 +1,4 @@
 pub mod Turns
 pub mod ReadsGathered
 pub mod LastYielded
+pub mod Hits

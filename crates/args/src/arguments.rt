@@ -6,7 +6,7 @@ ghost use Rattle.args.specs.Left.{read_of, then_left};
 
 use crate::dashes::stripped;
 use numbers::Refusal;
-use values::{before_first, split_once};
+use values::split_once;
 
 // An argument of a text: the bare flag, or a key with its value.
 #[derive(Clone, Copy, Debug, PartialEq, Eq)]
@@ -36,10 +36,10 @@ impl<'t> Args<'t> {
         if !argument.starts_with(b"--") {
             return (self, Err(Refusal::Argument));
         }
-        let key = stripped(before_first(argument, b'='));
-        if let Some((_, value)) = split_once(argument, b'=') {
-            return (self, Ok(Arg::Pair(key, value)));
+        if let Some((key, value)) = split_once(argument, b'=') {
+            return (self, Ok(Arg::Pair(stripped(key), value)));
         }
+        let key = stripped(argument);
         if key == b"verbose".as_slice() {
             return (self, Ok(Arg::Flag));
         }

@@ -5,7 +5,7 @@ ghost use Rattle.args.specs.Arguments.{values_of};
 use crate::arguments::{Arg, Args};
 
 // The values in what is left of a text of the key `prefix` then `name`.
-#[derive(Drop)]
+#[derive(Clone, Copy)]
 pub struct Values<'t, 'k> {
     args: Args<'t>,
     prefix: &'k [u8],

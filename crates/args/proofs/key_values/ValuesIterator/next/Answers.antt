@@ -37,13 +37,13 @@ args-2-preserved-in_default-strip_prefix c =
 pub args-2-preserved-then-tail-self : goal.args-2-preserved-then-tail-self
 args-2-preserved-then-tail-self c =
     turn (goal.at.args-2-preserved-then-tail-self c).After-strip_prefix
-    ∙ rw (tail-decides (goal.at.args-2-preserved-then-tail-self c).In-Some-strip_prefix, same_length c.in-Some-strip_prefix.tail.now c.args-2.self.name.now c.if-tail-self.true)
+    ∙ rw (tail-decides (goal.at.args-2-preserved-then-tail-self c).In-Some-strip_prefix, same_length c.in-Some-strip_prefix.tail.now c.args-2.self.name.now (λ e. omega (arith, e, c.if-tail-self.true)))
 
 pub loop-byte-init : goal.loop-byte-init
 loop-byte-init c =
     let tail : iter_rest (zip_first c.into_iter-byte-iterator.result) ≡ c.in-Some-strip_prefix.tail.now = search rules in
     let name : iter_rest (zip_second c.into_iter-byte-iterator.result) ≡ c.args-2.self.name.now = search rules in
-    (rw (tail, name) c.if-tail-self.false, refl)
+    (rw (tail, name) (omega (arith, c.if-tail-self.false)), refl)
 
 -- the tail and the name are what the comparison began with
 compared : (c : After-into_iter-byte-iterator) → same (iter_rest (zip_first c.into_iter-byte-iterator.result)) (iter_rest (zip_second c.into_iter-byte-iterator.result)) ≡ same c.in-Some-strip_prefix.tail.now c.args-2.self.name.now
