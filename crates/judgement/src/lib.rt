@@ -7,3 +7,5 @@ mod scalars;
 mod setting;
 
 pub use direction::is_settings;
+pub use lists::{are_blackouts, are_tcp_kills};
+pub use scalars::are_scalars;

@@ -7,14 +7,14 @@ use crate::setting::is_window;
 use numbers::MAX_ENTRIES;
 use options::DirectionConfig;
 
-pub(crate) fn are_blackouts(cfg: &DirectionConfig) -> bool
+pub fn are_blackouts(cfg: &DirectionConfig) -> bool
     ensures { result ≡ is_list is_window cfg.now.blackouts cfg.now.blackout_count }
 {
     let count = cfg.blackout_count;
     count <= MAX_ENTRIES && cfg.blackouts[..count].iter().all(|w| is_window(*w))
 }
 
-pub(crate) fn are_tcp_kills(cfg: &DirectionConfig) -> bool
+pub fn are_tcp_kills(cfg: &DirectionConfig) -> bool
     ensures { result ≡ is_list is_kill cfg.now.tcp_kills cfg.now.tcp_kill_count }
 {
     let count = cfg.tcp_kill_count;

@@ -6,7 +6,7 @@ use crate::setting::{is_bounded, is_ge, is_limit, is_probability, is_time};
 use options::DirectionConfig;
 
 // Whether refusal 29 lets all of them through. Joined by `&`: with `&&` the proof closes only by hand, test by test.
-pub(crate) fn are_scalars(cfg: &DirectionConfig) -> bool
+pub fn are_scalars(cfg: &DirectionConfig) -> bool
     ensures { result ≡ are_scalars_of cfg.now }
 {
     is_probability(cfg.loss)

@@ -1,22 +1,30 @@
 -- A rate, an MTU and a burst that are read pass refusal 29's judgement.
-use Rattle.std.specs.Prelude.{◌≡◌, refl, Bool, true, false, cond, not, Option, Some, None, IfSome, ℕ, ◌/◌, ◌≤◌, ltb, eqb}
+use Rattle.std.specs.Prelude.{◌≡◌, refl, Bool, true, false, cond, not, Option, Some, None, Result, Ok, Err, IfOk, List, ℕ, ◌/◌, ◌≤◌, ltb, eqb}
 use Rattle.std.proofs.Common.{arith, leb-true, lit≤}
-use Rattle.values.specs.Whole.{is_bounded}
+use Rattle.values.specs.Whole.{is_bounded, parse_positive_of}
 use Rattle.options.specs.Directions.{least_burst, default_burst_of, burst_of}
 use Rattle.numbers.specs.Limits.{max_exact}
 use Rattle.numbers.specs.Laws.Both.{both_true}
 use Rattle.numbers.specs.Laws.NotNan.{cond_has}
+use Rattle.numbers.specs.Results.{and_then, read_if}
+use Rattle.numbers.specs.declared.refusal.Refusal.{Refusal}
 use Rattle.settings.specs.Judgement.{is_positive}
-use Rattle.settings.specs.Laws.Numbers.{bounded_is}
-use Rattle.judgement.specs.Scalars.{is_rate, is_mtu}
+use Rattle.settings.specs.Laws.Numbers.{bounded_is, limit_judged}
+use Rattle.judgement.specs.Scalars.{is_limit, is_rate, is_mtu}
 
-pub rate_judged : (rate : Option ℕ) → IfSome rate (λ n. is_positive n ≡ true) → is_rate rate ≡ true
-rate_judged None h = refl
-rate_judged (Some n) h = h
+limit_passes : (o : Option (List ℕ)) → IfOk (read_if parse_positive_of o) (λ limit. is_limit limit ≡ true)
+limit_passes None = refl
+limit_passes (Some v) = go (parse_positive_of v) (limit_judged v)
+  where
+    go : (r : Result ℕ Refusal) → IfOk r (λ n. is_positive n ≡ true) → IfOk (and_then r (λ n. Ok (Some n))) (λ limit. is_limit limit ≡ true)
+    go (Ok n) h = h
+    go (Err e) h = tt
 
-pub mtu_judged : (mtu : Option ℕ) → IfSome mtu (λ n. is_positive n ≡ true) → is_mtu mtu ≡ true
-mtu_judged None h = refl
-mtu_judged (Some n) h = h
+pub rate_judged : (o : Option (List ℕ)) → IfOk (read_if parse_positive_of o) (λ rate. is_rate rate ≡ true)
+rate_judged = limit_passes
+
+pub mtu_judged : (o : Option (List ℕ)) → IfOk (read_if parse_positive_of o) (λ mtu. is_mtu mtu ≡ true)
+mtu_judged = limit_passes
 
 -- the burst of a rate that passes is bounded as the rate is
 default_within : (bps : ℕ) → bps ≤ max_exact → is_bounded (default_burst_of bps) ≡ true

@@ -19,7 +19,7 @@ use Rattle.settings.specs.declared.ge.Ge.{Ge}
 use Rattle.settings.specs.declared.kill.TcpKill.{TcpKill}
 use Rattle.settings.specs.declared.window.Window.{Window}
 use Rattle.settings.specs.Judgement.{is_positive, is_probability, is_time, is_ge, are_chances, is_list, is_window, is_kill}
-use Rattle.settings.specs.Laws.Numbers.{probability_judged, time_judged, limit_judged, count_judged, positive_judged, cap_judged}
+use Rattle.settings.specs.Laws.Numbers.{probability_judged, time_judged, count_judged, positive_judged, cap_judged}
 use Rattle.settings.specs.Laws.Bursts.{ge_judged}
 use Rattle.settings.proofs.JudgedEntries.{kills_judged, windows_judged}
 use Rattle.options.specs.declared.config.Config.{Config}
@@ -104,17 +104,17 @@ RatePasses p = (is_rate p.0 ≡ true) × (is_bounded p.1 ≡ true)
 rate_passes : (s prefix : List ℕ) → IfOk (rate_and_burst_of s prefix) RatePasses
 unfolding rate_and_burst_of
 rate_passes s prefix =
-    then_taken (λ o. IfSome o (λ n. is_positive n ≡ true)) RatePasses (read_if parse_positive_of (value_at s prefix "rate-bps")) _ (read_taken (λ n. is_positive n ≡ true) parse_positive_of (value_at s prefix "rate-bps") limit_judged) (λ rate i.
+    then_taken (λ rate. is_rate rate ≡ true) RatePasses (read_if parse_positive_of (value_at s prefix "rate-bps")) _ (rate_judged (value_at s prefix "rate-bps")) (λ rate i.
     then_taken (λ n. is_bounded n ≡ true) RatePasses (read_or parse_bounded_of 0 (value_at s prefix "rate-burst-bytes")) _ (count_judged 0 (omega arith) (value_at s prefix "rate-burst-bytes")) (λ burst j.
-    (rate_judged rate i, burst_for burst j rate (rate_judged rate i))))
+    (i, burst_for burst j rate i)))
 
 limits_pass : (s prefix : List ℕ) → IfOk (limits_of s prefix) LimitsPass
 unfolding limits_of mtu_of
 limits_pass s prefix =
     then_taken (λ x. is_probability x ≡ true) LimitsPass (read_or parse_prob_of (whole 0) (value_at s prefix "duplicate")) _ (probability_judged (value_at s prefix "duplicate")) (λ duplicate h.
     then_taken RatePasses LimitsPass (rate_and_burst_of s prefix) _ (rate_passes s prefix) (λ rate i.
-    then_taken (λ o. IfSome o (λ n. is_positive n ≡ true)) LimitsPass (read_if parse_positive_of (value_at s prefix "mtu")) _ (read_taken (λ n. is_positive n ≡ true) parse_positive_of (value_at s prefix "mtu") limit_judged) (λ mtu k.
-    record { duplicate = h; rate = i.0; burst = i.1; mtu = mtu_judged mtu k })))
+    then_taken (λ mtu. is_mtu mtu ≡ true) LimitsPass (read_if parse_positive_of (value_at s prefix "mtu")) _ (mtu_judged (value_at s prefix "mtu")) (λ mtu k.
+    record { duplicate = h; rate = i.0; burst = i.1; mtu = k })))
 
 record SchedulesPass (d : Schedules) : Type 0 where
   blackouts : is_list is_window d.blackouts.entries d.blackouts.count ≡ true

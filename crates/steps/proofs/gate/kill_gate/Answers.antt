@@ -38,7 +38,7 @@ record Decides (kills : List TcpKill) (i : ℕ) (now : Float) : Type 0 where
 pub loop-i-preserved : goal.loop-i-preserved
 loop-i-preserved c = record {
   undecided = c.loop-i.invariant.undecided;
-  left = turn _ _ _ false c.loop-i-test.true c.loop-i.invariant.left (rw (← c.contains.ensures) c.if-contains.false);
+  left = turn _ _ _ false (omega arith) c.loop-i.invariant.left (rw (← c.contains.ensures) c.if-contains.false);
 }
 
 decided : (c : Left-loop-i) (i : ℕ) → c.loop-i-test.deciding ≡ Some i → Decides c.args.kills.now i c.args.now_ms
@@ -48,8 +48,8 @@ decided c i is =
       | then-loop-i-test+then-contains w ↦
           subst (λ (k : ℕ). Decides c.args.kills.now k c.args.now_ms) (same_Some c.loop-i.i i (sym w.deciding-is ∙ is))
           (record {
-            within = w.loop-i-test.true;
-            style = sym (turn _ _ _ true w.loop-i-test.true c.loop-i.invariant.left (rw (← w.contains.ensures) w.if-contains.true));
+            within = omega (arith, w.loop-i-test.true);
+            style = sym (turn _ _ _ true (omega (arith, w.loop-i-test.true)) c.loop-i.invariant.left (rw (← w.contains.ensures) w.if-contains.true));
           })
     ]
 
