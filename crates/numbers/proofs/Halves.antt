@@ -2,6 +2,7 @@
 use Rattle.std.proofs.Common.{◌≡◌, ℕ, ◌+◌, ◌*◌, ◌/◌, ◌%◌, ◌^◌, ◌<◌, sym, refl, ap, ◌∙◌, ap₂, lt_of_le_of_lt, le_of_lt, mul-le-mul_left, mul-lt-mul_of_pos_right, div-add-mod', arith, pow_pos, pow-add}
 use native.Mathlib.Nat.{mul-add-mod_self_right}
 use lib.Pow.{mod-mod-pow}
+use Rattle.numbers.specs.Wrapping.{wrapping_mul_of}
 
 -- a product of two halves fits the whole width
 pub half_product : (k : ℕ) {a b : ℕ} → a < 2 ^ k → b < 2 ^ k → a * b < 2 ^ (k + k)
@@ -21,3 +22,11 @@ halves k a b =
     ∙ ap (λ (z : ℕ). (high * z + low) % 2 ^ (k + k)) (pow-add 2 k k)
     ∙ ap (λ (z : ℕ). z % 2 ^ (k + k)) (sym (expand B (a / B) (a % B) (b / B) (b % B) x (x / B) (x % B) refl (div-add-mod' x B)))
     ∙ ap₂ (λ (y z : ℕ). y * z % 2 ^ (k + k)) (div-add-mod' a B) (div-add-mod' b B)
+
+-- `wrapping_mul` gives what the halves of 32 bits make
+pub wrapping_mul_halves : (a b : ℕ) → let B = 2 ^ 32 in ((a / B * (b % B) + a % B * (b / B)) % 2 ^ 64 % B * B + a % B * (b % B)) % 2 ^ 64 ≡ wrapping_mul_of a b
+wrapping_mul_halves a b = halves 32 a b
+
+-- and for numbers of 64 bits no product of two halves goes past 64 bits
+pub wrapping_mul_halves_fit : {a b : ℕ} → a < 2 ^ 64 → b < 2 ^ 64 → let B = 2 ^ 32 in (a / B * (b % B) < 2 ^ 64) × ((a % B * (b / B) < 2 ^ 64) × (a % B * (b % B) < 2 ^ 64))
+wrapping_mul_halves_fit ha hb = (half_product 32 (omega arith) (omega arith), (half_product 32 (omega arith) (omega arith), half_product 32 (omega arith) (omega arith)))

@@ -1,5 +1,5 @@
 -- What is at most 2 ^ 53 is a number; then only its sign bit, the highest of its pattern, is left to test.
-use Rattle.std.proofs.Common.{◌≡◌, true, false, not, sym, refl, ap, ◌∙◌, true≢false}
+use Rattle.std.proofs.Common.{◌≡◌, true, false, not, sym, refl, ap, true≢false}
 use mathlib.Core.Bool.{or-true, or-false}
 use Rattle.std.specs.Float.{is_sign_negative}
 use lib.Ieee.{Float, nan, inf, fin, of_bits, is_nan, le}
@@ -42,4 +42,4 @@ returns-then-t c = rw c.is_sign_negative.ensures (within c.args.t c.if-t.true)
 
 pub returns-else-t : goal.returns-else-t
 unfolding of_bits
-returns-else-t c = c.if-t.false ∙ beyond c.args.t c.if-t.false
+returns-else-t c = cc (c.if-t.false, beyond c.args.t c.if-t.false)
