@@ -1,5 +1,6 @@
 // What memory holds, as two numbers.
 use queue_calls::{Memory, Part, Table};
+use script::payload;
 
 // The sums of what is lent and of what lies around it.
 #[derive(Clone, Copy, PartialEq, Eq)]
@@ -19,7 +20,7 @@ pub fn of(part: Part, memory: &Memory) -> Marks {
         .with(part, Table::Routes, &memory.routes, |n| *n)
         .with(part, Table::CopyIds, &memory.copy_ids, |n| u64::from(*n))
         .with(part, Table::Lengths, &memory.lengths, |n| u64::from(*n))
-        .with(part, Table::Store, &memory.store, |n| u64::from(*n))
+        .with_store(part, &memory.store)
 }
 
 impl Marks {
@@ -42,6 +43,19 @@ impl Marks {
             }
         }
         self
+    }
+
+    // With the bytes of the store, which are many: by one sum of what is lent, and one each of what lies before and behind it.
+    fn with_store(self, part: Part, store: &[u8]) -> Marks {
+        let start = part.start as usize;
+        let end = part.end(Table::Store);
+        let before = payload::sum(values::front(store, start));
+        let lent = payload::sum(values::after(values::front(store, end), start));
+        let behind = payload::sum(values::after(store, end));
+        Marks {
+            lent: draws::mix(self.lent, lent),
+            around: draws::mix(draws::mix(self.around, before), behind),
+        }
     }
 }
 

@@ -1,10 +1,10 @@
 // The bytes of a slot: slot number `slot` of a store has `width` bytes from slot * width on.
-ghost use Rattle.std.specs.Prelude.{◌≡◌};
-ghost use Rattle.tables.specs.Slots.{filled_of, part_of};
+ghost use Rattle.std.specs.Prelude.{◌≡◌, ◌+◌, ◌≤◌, length};
+ghost use Rattle.tables.specs.Slots.{filled_of, part_of, copied_of};
 
 // The bytes at the front of a slot become `bytes`. Nothing changes where they are more than the slot has or lie outside the store. By a
 // test, since the proof does not close with `get_mut`.
-#[tactic(auto, using(std::proofs::lemmas::Slice::overwrites), unfolding(crate::specs::Slots::filled_of))]
+#[tactic(auto, unfolding(crate::specs::Slots::filled_of))]
 pub fn fill(store: &mut [u8], width: u32, slot: u32, bytes: &[u8])
     ensures { store.new ≡ filled_of width store.old slot bytes.now }
 {
@@ -12,11 +12,20 @@ pub fn fill(store: &mut [u8], width: u32, slot: u32, bytes: &[u8])
         return;
     }
     let start = slot as usize * width as usize;
-    let end = start + bytes.len();
-    if store.len() < end {
+    if store.len() < start + bytes.len() {
         return;
     }
-    store[start..end].copy_from_slice(bytes);
+    copy(store, start, bytes);
+}
+
+// All of `bytes` are stored from `start` on. By index: with `copy_from_slice` a static library would need `memmove` from outside.
+fn copy(store: &mut [u8], start: usize, bytes: &[u8])
+    requires { start + length bytes.now ≤ length store.old }
+    ensures { store.new ≡ copied_of store.old start bytes.now }
+{
+    for i in 0..bytes.len() {
+        store[start + i] = bytes[i];
+    }
 }
 
 // The first `len` bytes of a slot: none where the slot has fewer or they lie outside the store.
