@@ -1,5 +1,5 @@
 -- A rate, an MTU and a burst that are read pass refusal 29's judgement.
-use Rattle.std.specs.Prelude.{◌≡◌, refl, Bool, true, false, cond, not, Option, Some, None, Result, Ok, Err, IfOk, List, ℕ, ◌/◌, ◌≤◌, ltb, eqb}
+use Rattle.std.specs.Prelude.{◌≡◌, refl, Bool, true, false, cond, not, Option, Some, None, IfSome, Result, Ok, Err, IfOk, List, ℕ, ◌/◌, ◌≤◌, ltb, eqb}
 use Rattle.std.proofs.Common.{arith, leb-true, lit≤}
 use Rattle.values.specs.Whole.{is_bounded, parse_positive_of}
 use Rattle.options.specs.Directions.{least_burst, default_burst_of, burst_of}
@@ -12,12 +12,17 @@ use Rattle.settings.specs.Judgement.{is_positive}
 use Rattle.settings.specs.Laws.Numbers.{bounded_is, limit_judged}
 use Rattle.judgement.specs.Scalars.{is_limit, is_rate, is_mtu}
 
+-- a rate or an MTU passes where it is positive, or where there is none
+pub limit_is : (limit : Option ℕ) → IfSome limit (λ n. is_positive n ≡ true) → is_limit limit ≡ true
+limit_is None h = refl
+limit_is (Some n) h = h
+
 limit_passes : (o : Option (List ℕ)) → IfOk (read_if parse_positive_of o) (λ limit. is_limit limit ≡ true)
-limit_passes None = refl
+limit_passes None = limit_is None tt
 limit_passes (Some v) = go (parse_positive_of v) (limit_judged v)
   where
     go : (r : Result ℕ Refusal) → IfOk r (λ n. is_positive n ≡ true) → IfOk (and_then r (λ n. Ok (Some n))) (λ limit. is_limit limit ≡ true)
-    go (Ok n) h = h
+    go (Ok n) h = limit_is (Some n) h
     go (Err e) h = tt
 
 pub rate_judged : (o : Option (List ℕ)) → IfOk (read_if parse_positive_of o) (λ rate. is_rate rate ≡ true)
