@@ -19,7 +19,7 @@ pub enum Call<'a> {
 impl<'a> Call<'a> {
     // The call of a line, where it is one; an option text is decoded into `text`.
     pub fn read(line: &'a Line, text: &'a mut [u8]) -> Option<Self> {
-        script::calls::call_of(line, text, Call::Options, of_words)
+        script::calls::kept_call_of(line, text, Call::Options, of_words)
     }
 }
 

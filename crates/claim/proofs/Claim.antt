@@ -13,7 +13,7 @@
 -- The device of a refused creation has all of this too, with the machine of the default settings, the generator's seed 0, capacity 1 and slots of 2,048 bytes
 -- (`refused_creation_agrees`). Of any device and any memory, altered ones too, a call that is refused by any number but 26 changes nothing
 -- (`refused_changes_nothing`, demand 1). The slot width decides nothing but 22 (`two_widths`). And none of this speaks of nothing: every list of calls has a run,
--- on any device and memory (`runs_exist`).
+-- on any device and memory (`runs_exist`), one whose calls are all by value too (`runs_by_value_exist`).
 --
 -- It rests on the contracts of `parse_config`, `create`, `arrive`, `release`, `payload`, `rebind`, `teardown` and `report`, each proved of its function: a run
 -- (Runs) is a list of calls for which these contracts hold, each handed the device and the tables that the last one left. An instant handed to `arrive` is a
@@ -42,10 +42,10 @@ use Rattle.device.specs.Creation.{create_of}
 use Rattle.device.specs.Parts.{Handed}
 use Rattle.device.specs.declared.device.Device.{Device}
 use Rattle.claim.specs.Creations.{new_device, refused_creation, CreationEnds}
-use Rattle.claim.specs.Runs.{Parses, Creates, Answered, Ran}
+use Rattle.claim.specs.Runs.{Parses, Creates, Answered, Ran, ByValue}
 use Rattle.claim.proofs.Laws.Answers.{answers_to}
 use Rattle.claim.proofs.Laws.Creation.{create_matches, create_made, create_refuses_width, create_ends, refused_device, refused_matches}
-use Rattle.claim.proofs.Laws.Exist.{parses_so, creates_so, ran_so}
+use Rattle.claim.proofs.Laws.Exist.{parses_so, creates_so, ran_so, ran_by_value}
 use Rattle.claim.proofs.Laws.Matches.{Matches}
 use Rattle.claim.proofs.Laws.Ran.{parses_is, creates_is, ran_is, ran_binary64}
 use Rattle.claim.proofs.Laws.Refused.{answered_stays, ran_stays}
@@ -172,3 +172,7 @@ creation_exists cfg seed salt cap width t = (create_of cfg seed salt cap width t
 -- every list of calls has a run
 pub runs_exist : (v : Device) (t : Tables) (cs : List Call) → Binary64 cs → (rs : List Answer) × Ran v t cs rs
 runs_exist v t cs fit = (answers_to v t cs, ran_so v t cs fit)
+
+-- and one in which each call is made by value
+pub runs_by_value_exist : (v : Device) (t : Tables) (cs : List Call) → Binary64 cs → (rs : List Answer) × ((ran : Ran v t cs rs) × ByValue ran)
+runs_by_value_exist v t cs fit = (answers_to v t cs, ran_by_value v t cs fit)

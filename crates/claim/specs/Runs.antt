@@ -1,6 +1,6 @@
 -- Runs of the program: each step is a call of a function of crates/device, answered and its tables left as the function's own contract says (`Learnt`), and begins
 -- with what the last one left.
-use Rattle.std.specs.Prelude.{◌≡◌, Bool, List, [], ◌∷◌, ℕ, T, Float, Option, None, Some, Result, Ok, Err}
+use Rattle.std.specs.Prelude.{◌≡◌, Bool, true, false, List, [], ◌∷◌, ℕ, T, Float, Option, None, Some, Result, Ok, Err}
 use Rattle.std.specs.Float.{binary64}
 use Rattle.std.specs.Float.Ieee.{fits}
 use contract.Lifetimes
@@ -168,6 +168,36 @@ pub data Ran : Device → Tables → List Call → List Answer → Type 1 where
   done : {v : Device} {t : Tables} → Ran v t [] []
   next : {v v' : Device} {t t' : Tables} {c : Call} {a : Answer} {cs : List Call} {rs : List Answer}
       → Answered v t c a v' t' → Ran v' t' cs rs → Ran v t (c ∷ cs) (a ∷ rs)
+
+-- whether a call was made by value: the device was handed in and back, and not changed in place
+abbrev pub arrives_by_value : {v : Device} {t t' : Tables} {instant : Float} {bytes : List ℕ} {route : ℕ} {r : Handed Arrived} → Arrives v t instant bytes route r t' → Bool
+arrives_by_value (Arrives.called κs a r s fit ev et ei eb er h) = true
+arrives_by_value (Arrives.called_in_place κs a r s fit ev et ei eb er h) = false
+
+abbrev pub releases_by_value : {v : Device} {t t' : Tables} {instant : Float} {r : Handed (Option Queued)} → Releases v t instant r t' → Bool
+releases_by_value (Releases.called κs a r s ev et ei h) = true
+releases_by_value (Releases.called_in_place κs a r s ev et ei h) = false
+
+abbrev pub rebinds_by_value : {v : Device} {instant : Float} {r : Handed Bool} → Rebinds v instant r → Bool
+rebinds_by_value (Rebinds.called κs a r s ev ei h) = true
+rebinds_by_value (Rebinds.called_in_place κs a r s ev ei h) = false
+
+abbrev pub tears_by_value : {v : Device} {r : Handed ℕ} → TearsDown v r → Bool
+tears_by_value (TearsDown.called κs a r s ev h) = true
+tears_by_value (TearsDown.called_in_place κs a r s ev h) = false
+
+-- a report, which is lent the device, has no other form
+abbrev pub answered_by_value : {v v' : Device} {t t' : Tables} {c : Call} {a : Answer} → Answered v t c a v' t' → Bool
+answered_by_value (arrives x) = arrives_by_value x
+answered_by_value (releases x says) = releases_by_value x
+answered_by_value (rebinds x) = rebinds_by_value x
+answered_by_value (tears_down x) = tears_by_value x
+answered_by_value (reports x) = true
+
+-- each call of a run was made by value
+abbrev pub ByValue : {v : Device} {t : Tables} {cs : List Call} {rs : List Answer} → Ran v t cs rs → Type 0
+ByValue done = Unit {0}
+ByValue (next call ran) = (answered_by_value call ≡ true) × ByValue ran
 
 -- each device that a run hands on has slots of that width
 abbrev pub WidthStays : ℕ → {v : Device} {t : Tables} {cs : List Call} {rs : List Answer} → Ran v t cs rs → Type 0

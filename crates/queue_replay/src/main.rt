@@ -13,7 +13,7 @@ fn main(rt: HostRuntime) -> io::Result<()> {
     let alloc = rt.alloc();
     let mut out = BufWriter::new(alloc, Lossy(io::writer(&rt)))?;
     let mut session = Session::new(alloc)?;
-    script::lines::answer_calls(alloc, rt.reader(), &mut out, |line, out| {
+    script::lines::answer_kept_calls(alloc, rt.reader(), &mut out, |line, out| {
         session.answer(line, out)
     })
 }

@@ -16,7 +16,7 @@ fn main(rt: HostRuntime) -> io::Result<()> {
     let mut out = BufWriter::new(alloc, Lossy(io::writer(&rt)))?;
     let mut session = Session::new(alloc)?;
     let mut text = vec![in alloc; 0; script::LONGEST_TEXT]?;
-    script::lines::answer_calls(alloc, rt.reader(), &mut out, |line, out| {
+    script::lines::answer_kept_calls(alloc, rt.reader(), &mut out, |line, out| {
         let Some(call) = Call::read(line, &mut text) else {
             return Ok(false);
         };

@@ -25,7 +25,7 @@ impl Line {
         }
         match digits {
             Some(digits) if self.beyond().is_paired() => {
-                hex::decode(digits, text).map_or(Asked::Nothing, Asked::Text)
+                hex::decode_into(digits, text).map_or(Asked::Nothing, Asked::Text)
             }
             _ => Asked::Nothing,
         }

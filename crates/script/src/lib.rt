@@ -10,6 +10,8 @@ mod line;
 pub mod lines;
 pub mod patterns;
 pub mod payload;
+#[cfg(test)]
+mod tests;
 pub mod words;
 
 pub use asked::Asked;

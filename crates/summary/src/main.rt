@@ -19,7 +19,7 @@ fn main(rt: HostRuntime) -> io::Result<()> {
     let alloc = rt.alloc();
     let mut out = BufWriter::new(alloc, Lossy(io::writer(&rt)))?;
     let mut number = 0u64;
-    script::lines::answer_lines(alloc, rt.reader(), &mut out, |line, out| {
+    script::lines::answer_kept_lines(alloc, rt.reader(), &mut out, |line, out| {
         number = number.saturating_add(1);
         answers::show(out, number, line.kept())
     })

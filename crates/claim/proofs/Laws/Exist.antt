@@ -1,5 +1,5 @@
 -- Each call is answered: for any device, memory and arguments there are an answer and tables at exit that the function's contract fits. So every list of calls has a run.
-use Rattle.std.specs.Prelude.{◌≡◌, refl, List, [], ◌∷◌, ℕ, zero, suc, T, Float, Option, None, Some, Result, Ok, Err}
+use Rattle.std.specs.Prelude.{◌≡◌, refl, true, List, [], ◌∷◌, ℕ, zero, suc, T, Float, Option, None, Some, Result, Ok, Err}
 use Rattle.std.specs.Borrow.{Bor, MutBor}
 use Rattle.std.proofs.Common.{sym, ap, subst}
 use Rattle.std.specs.Float.{binary64}
@@ -22,7 +22,7 @@ use Rattle.device.specs.Others.{rebind_of, teardown_of, report_of}
 use Rattle.device.specs.Release.{release_of}
 use Rattle.device.specs.declared.device.Device.{Device}
 use Rattle.claim.specs.Replies.{said_of_release}
-use Rattle.claim.specs.Runs.{Parses, Creates, Arrives, Releases, Rebinds, TearsDown, Reports, Reads, Says, hands_out, none, refuses, Answered, arrives, releases, rebinds, tears_down, reports, Ran, done, next}
+use Rattle.claim.specs.Runs.{Parses, Creates, Arrives, Releases, Rebinds, TearsDown, Reports, Reads, Says, hands_out, none, refuses, Answered, arrives, releases, rebinds, tears_down, reports, Ran, done, next, arrives_by_value, releases_by_value, rebinds_by_value, tears_by_value, answered_by_value, ByValue}
 use Rattle.claim.proofs.Laws.Answers.{answer_to, answers_to}
 use Rattle.claim.proofs.Laws.Lent.{arrive_free, release_rows}
 
@@ -68,29 +68,34 @@ with_free t f = tables t.win f t.dues t.seqs t.arrivals t.routes t.copy_ids t.le
 abbrev with_rows : Tables → Rows → Tables
 with_rows t r = tables t.win t.free t.dues t.seqs r.arrivals r.routes r.copy_ids r.lengths r.store
 
+-- the calls by value
 arrives_so : (v : Device) (t : Tables) (now : Float) (bytes : List ℕ) (route : ℕ) → T (fits binary64 now)
-    → let o = arrive_of v t now bytes route in Arrives v t now bytes route o.gives o.memory
+    → let o = arrive_of v t now bytes route in (x : Arrives v t now bytes route o.gives o.memory) × (arrives_by_value x ≡ true)
 arrives_so v t now bytes route fit =
     let o = arrive_of v t now bytes route in
     let same : with_free o.memory t.free ≡ o.memory = sym (ap (with_free o.memory) (arrive_free v t now bytes route)) in
-    subst (Arrives v t now bytes route o.gives) same
-    (Arrives.called (lifetimes 6) (v, (lent_tree t, (shared t.free, (lent_rows t, (now, (shared bytes, (route, tt))))))) o.gives
-    (v, (lent_tree o.memory, (shared t.free, (lent_rows o.memory, (now, (shared bytes, (route, tt)))))))
-    fit refl refl refl refl refl (ap (after o.gives) same, ((refl, refl, refl), (refl, refl, refl, refl, refl))))
+    subst (λ (m : Tables). (x : Arrives v t now bytes route o.gives m) × (arrives_by_value x ≡ true)) same (
+      Arrives.called (lifetimes 6) (v, (lent_tree t, (shared t.free, (lent_rows t, (now, (shared bytes, (route, tt))))))) o.gives
+          (v, (lent_tree o.memory, (shared t.free, (lent_rows o.memory, (now, (shared bytes, (route, tt)))))))
+          fit refl refl refl refl refl (ap (after o.gives) same, ((refl, refl, refl), (refl, refl, refl, refl, refl))),
+      refl,
+    )
 
-releases_so : (v : Device) (t : Tables) (now : Float) → let o = release_of v t now in Releases v t now o.gives o.memory
+releases_so : (v : Device) (t : Tables) (now : Float) → let o = release_of v t now in (x : Releases v t now o.gives o.memory) × (releases_by_value x ≡ true)
 releases_so v t now =
     let o = release_of v t now in
     let same : with_rows o.memory (rows_of t) ≡ o.memory = sym (ap (with_rows o.memory) (release_rows v t now)) in
-    subst (Releases v t now o.gives) same
-    (Releases.called (lifetimes 4) (v, (lent_tree t, (unique t.free, (seen_rows t, (now, tt))))) o.gives
-    (v, (lent_tree o.memory, (unique o.memory.free, (seen_rows t, (now, tt))))) refl refl refl (ap (after o.gives) same, (refl, refl, refl)))
+    subst (λ (m : Tables). (x : Releases v t now o.gives m) × (releases_by_value x ≡ true)) same (
+      Releases.called (lifetimes 4) (v, (lent_tree t, (unique t.free, (seen_rows t, (now, tt))))) o.gives
+          (v, (lent_tree o.memory, (unique o.memory.free, (seen_rows t, (now, tt))))) refl refl refl (ap (after o.gives) same, (refl, refl, refl)),
+      refl,
+    )
 
-rebinds_so : (v : Device) (now : Float) → Rebinds v now (rebind_of v now)
-rebinds_so v now = Rebinds.called tt (v, (now, tt)) (rebind_of v now) (v, (now, tt)) refl refl refl
+rebinds_so : (v : Device) (now : Float) → (x : Rebinds v now (rebind_of v now)) × (rebinds_by_value x ≡ true)
+rebinds_so v now = (Rebinds.called tt (v, (now, tt)) (rebind_of v now) (v, (now, tt)) refl refl refl, refl)
 
-tears_so : (v : Device) → TearsDown v (teardown_of v)
-tears_so v = TearsDown.called tt (v, tt) (teardown_of v) (v, tt) refl refl
+tears_so : (v : Device) → (x : TearsDown v (teardown_of v)) × (tears_by_value x ≡ true)
+tears_so v = (TearsDown.called tt (v, tt) (teardown_of v) (v, tt) refl refl, refl)
 
 reports_so : (v : Device) → Reports v (report_of v)
 reports_so v = Reports.called (lifetimes 1) (shared v, tt) (report_of v) (shared v, tt) refl refl
@@ -103,15 +108,22 @@ says_so width store (Ok (Some c)) = hands_out (reads_so store width c.slot c.len
 says_so width store (Ok None) = none
 says_so width store (Err e) = refuses
 
-answered_so : (v : Device) (t : Tables) (c : Call) → Binary64Call c → Answered v t c (answer_to v t c).reply (answer_to v t c).device (answer_to v t c).tables
+answered_so : (v : Device) (t : Tables) (c : Call) → Binary64Call c
+    → (x : Answered v t c (answer_to v t c).reply (answer_to v t c).device (answer_to v t c).tables) × (answered_by_value x ≡ true)
 unfolding answer_to
-answered_so v t (arrive now bytes route) fit = arrives (arrives_so v t now bytes route fit)
-answered_so v t (release now) fit = releases (releases_so v t now) (says_so _ _ _)
-answered_so v t (rebind now) fit = rebinds (rebinds_so v now)
-answered_so v t teardown fit = tears_down (tears_so v)
-answered_so v t report fit = reports (reports_so v)
+answered_so v t (arrive now bytes route) fit = let x = arrives_so v t now bytes route fit in (arrives x.0, x.1)
+answered_so v t (release now) fit = let x = releases_so v t now in (releases x.0 (says_so _ _ _), x.1)
+answered_so v t (rebind now) fit = let x = rebinds_so v now in (rebinds x.0, x.1)
+answered_so v t teardown fit = let x = tears_so v in (tears_down x.0, x.1)
+answered_so v t report fit = (reports (reports_so v), refl)
+
+pub ran_by_value : (v : Device) (t : Tables) (cs : List Call) → Binary64 cs → (x : Ran v t cs (answers_to v t cs)) × ByValue x
+unfolding answers_to
+ran_by_value v t [] fit = (done, tt)
+ran_by_value v t (c ∷ cs) fit =
+    let x = answered_so v t c fit.0 in
+    let rest = ran_by_value (answer_to v t c).device (answer_to v t c).tables cs fit.1 in
+    (next x.0 rest.0, (x.1, rest.1))
 
 pub ran_so : (v : Device) (t : Tables) (cs : List Call) → Binary64 cs → Ran v t cs (answers_to v t cs)
-unfolding answers_to
-ran_so v t [] fit = done
-ran_so v t (c ∷ cs) fit = next (answered_so v t c fit.0) (ran_so (answer_to v t c).device (answer_to v t c).tables cs fit.1)
+ran_so v t cs fit = (ran_by_value v t cs fit).0

@@ -2,7 +2,7 @@
 use Rattle.std.proofs.Common.{◌≡◌, ◌≢◌, ℕ, List, All}
 use Rattle.std.specs.Io.KnownBytes.{Consumes}
 use Rattle.script.specs.Lines.{known_of, nothing_known, with_bytes}
-use Rattle.script.proofs.lines.next_line.Given as goal
+use Rattle.script.proofs.lines.next_kept_line.Given as goal
 
 abbrev pub invariant-loop : goal.invariant-loop
 invariant-loop g l = (given : List ℕ)

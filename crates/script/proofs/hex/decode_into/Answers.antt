@@ -1,7 +1,7 @@
 use Rattle.std.proofs.Common.{sym, ◌∙◌, arith}
 use Rattle.std.proofs.lemmas.Grind.{common_steps}
 use Rattle.script.proofs.Reading.{stores, passes, ends}
-use Rattle.script.proofs.hex.decode.Goals as goal
+use Rattle.script.proofs.hex.decode_into.Goals as goal
 
 pub loop-rest-preserved-then-count-text : goal.loop-rest-preserved-then-count-text
 loop-rest-preserved-then-count-text c = record {

@@ -7,7 +7,7 @@ use Rattle.std.specs.Io.BufRead.{FillKeeps}
 use Rattle.script.specs.Lines.{known_of, nothing_known}
 use Rattle.script.proofs.Cutting.{cut_takes, with_none}
 use Rattle.script.proofs.Ending.{step_more, step_feed, step_end}
-use Rattle.script.proofs.lines.next_line.Goals as goal
+use Rattle.script.proofs.lines.next_kept_line.Goals as goal
 
 pub loop-init : goal.loop-init
 loop-init g c = ([], Consumes-nil _, All-nil (λ x. x ≢ 10), c.clear.ensures ∙ sym (with_none nothing_known))
