@@ -5,6 +5,7 @@ ghost use Rattle.std.specs.Io.BufRead.{DropsThrough, strip_last};
 ghost use Rattle.script.specs.Lines.{line_feed, has_line, line_of, known_of, nothing_known, with_bytes, TakesAnyLine};
 
 use crate::input::UntilFailure;
+use crate::line;
 use crate::line::Line;
 use std::alloc::Global;
 use std::io;
@@ -14,7 +15,7 @@ use std::io::{BufRead, BufReader, ErrorKind, Read, Write};
 pub const BAD_LINE: &str = "bad line";
 
 // The longest line in bytes that asks for something without an option text.
-pub use crate::line::LONGEST;
+pub const LONGEST: usize = line::LONGEST;
 
 // Puts the next line into `line`, without its line feed, and says whether there is one. The caller lends `line`, so that one buffer serves for all lines.
 pub fn next_line<R: BufRead>(input: &mut R, line: &mut Vec<u8>) -> io::Result<bool>

@@ -1,5 +1,5 @@
 // What no contract says of whole lines: that a call succeeds, and what is handed to a closure.
-use crate::{calls, hex, lines};
+use crate::{calls, hex, lines, payload};
 use std::alloc::{AllocError, Global};
 use std::io;
 use std::io::{ErrorKind, Read, Write};
@@ -22,18 +22,20 @@ fn texts_are_decoded(rt: HostRuntime) -> Result<(), Fail> {
     Ok(())
 }
 
-// A line of two bytes, an empty one, one of 70,000 and one of four, which no line feed ends.
-fn four_lines(alloc: Global) -> Result<Vec<u8>, AllocError> {
-    let mut input = Vec::new(alloc);
-    input.extend_from_slice(b"ab\n\n")?;
+// A line of two bytes, an empty one, one of 70,000 and one of four, each but the last ended by `end`.
+fn four_lines(alloc: Global, end: &[u8]) -> Result<Vec<u8>, AllocError> {
+    let mut input = b"ab".to_vec(alloc)?;
+    input.extend_from_slice(end)?;
+    input.extend_from_slice(end)?;
     input.extend_from_slice(&vec![in alloc; b'c'; 70_000]?)?;
-    input.extend_from_slice(b"\nlast")?;
+    input.extend_from_slice(end)?;
+    input.extend_from_slice(b"last")?;
     Ok(input)
 }
 
 #[test]
 fn lines_are_whole(rt: HostRuntime) -> Result<(), Fail> {
-    let bytes = four_lines(rt.alloc())?;
+    let bytes = four_lines(rt.alloc(), b"\n")?;
     let mut input = bytes.as_slice();
     let mut line = Vec::new(rt.alloc());
     for length in [Some(2), Some(0), Some(70_000), Some(4), None] {
@@ -43,26 +45,37 @@ fn lines_are_whole(rt: HostRuntime) -> Result<(), Fail> {
     Ok(())
 }
 
+// Writes a line and what ends it here.
+fn echo<W: Write>(line: &[u8], out: &mut W) -> io::Result<()> {
+    out.write_all(line)?;
+    out.write_all(b";")
+}
+
 #[test]
 fn lines_are_answered(rt: HostRuntime) -> Result<(), Fail> {
-    let bytes = four_lines(rt.alloc())?;
+    let bytes = four_lines(rt.alloc(), b"\n")?;
     let mut out = Vec::new(rt.alloc());
-    lines::answer_lines(rt.alloc(), bytes.as_slice(), &mut out, |line, out| {
-        write!(out, "{} ", line.len())
-    })?;
-    assert_eq!(rt; out.as_slice(), b"2 0 70000 4 ".as_slice());
+    lines::answer_lines(
+        rt.alloc(),
+        bytes.as_slice(),
+        &mut out,
+        |line, out| echo(line, out),
+    )?;
+    let mut want = four_lines(rt.alloc(), b";")?;
+    want.push(b';')?;
+    assert_eq!(rt; out, want);
     Ok(())
 }
 
 #[test]
 fn calls_are_answered(rt: HostRuntime) -> Result<(), Fail> {
-    let bytes = four_lines(rt.alloc())?;
+    let input = b"ab\n\nlast".as_slice();
     let mut out = Vec::new(rt.alloc());
-    lines::answer_calls(rt.alloc(), bytes.as_slice(), &mut out, |line, out| {
-        write!(out, "{}", line.len())?;
+    lines::answer_calls(rt.alloc(), input, &mut out, |line, out| {
+        echo(line, out)?;
         Ok(!line.is_empty())
     })?;
-    assert_eq!(rt; out.as_slice(), b"2\n0bad line\n70000\n4\n".as_slice());
+    assert_eq!(rt; out.as_slice(), b"ab;\n;bad line\nlast;\n".as_slice());
     Ok(())
 }
 
@@ -83,42 +96,68 @@ impl Read for Failing {
     }
 }
 
-#[test]
-fn failures_are_told(rt: HostRuntime) -> Result<(), Fail> {
-    let mut out = Vec::new(rt.alloc());
-    let input = Failing { has_given: false };
-    let told = lines::answer_lines(rt.alloc(), input, &mut out, |line, out| {
-        write!(out, "{} ", line.len())
-    });
-    assert!(rt; told.is_err());
-    assert_eq!(rt; out.as_slice(), b"2 ".as_slice());
-    Ok(())
+// Output that counts its bytes, and of them those that were written on.
+#[derive(Clone, Copy, Debug, PartialEq, Eq)]
+struct Counted {
+    bytes: u64,
+    flushed: u64,
 }
 
-// A call is told by the length of its option text, or of its line.
+impl Write for Counted {
+    fn write(&mut self, buf: &[u8]) -> io::Result<usize> {
+        self.bytes = self.bytes.saturating_add(buf.len() as u64);
+        Ok(buf.len())
+    }
+
+    fn flush(&mut self) -> io::Result<()> {
+        self.flushed = self.bytes;
+        Ok(())
+    }
+}
+
+// The line before the failure is answered, and written on before more input is waited for.
+#[test]
+fn failures_are_told(rt: HostRuntime) {
+    let mut out = Counted {
+        bytes: 0,
+        flushed: 0,
+    };
+    let input = Failing { has_given: false };
+    let told = lines::answer_lines(rt.alloc(), input, &mut out, |line, out| echo(line, out));
+    assert!(rt; told.is_err());
+    assert_eq!(rt;
+        out,
+        Counted {
+            bytes: 3,
+            flushed: 3
+        }
+    );
+}
+
+// A call is told by the sum of its option text, or of its line.
 #[derive(Clone, Copy, Debug, PartialEq, Eq)]
 enum Told {
-    Text(usize),
-    Words(usize),
+    Text(u64),
+    Words(u64),
 }
 
 fn call_told(alloc: Global, line: &[u8]) -> Result<Option<Told>, AllocError> {
     calls::call_of(
         alloc,
         line,
-        |text| Told::Text(text.len()),
-        |line| Some(Told::Words(line.len())),
+        |text| Told::Text(payload::sum(&text)),
+        |line| Some(Told::Words(payload::sum(line))),
     )
 }
 
 #[test]
 fn calls_are_read(rt: HostRuntime) -> Result<(), Fail> {
     let cases = [
-        ("options 666f6f", Some(Told::Text(3))),
-        ("options ", Some(Told::Text(0))),
+        ("options 666f6f", Some(Told::Text(payload::sum(b"foo")))),
+        ("options ", Some(Told::Text(payload::sum(b"")))),
         ("options 666f6", None),
-        ("options", Some(Told::Words(7))),
-        ("rebind 0", Some(Told::Words(8))),
+        ("options", Some(Told::Words(payload::sum(b"options")))),
+        ("rebind 0", Some(Told::Words(payload::sum(b"rebind 0")))),
     ];
     for (line, call) in cases {
         assert_eq!(rt; call_told(rt.alloc(), line.as_bytes())?, call, "of {line}");
@@ -131,9 +170,17 @@ fn calls_are_read(rt: HostRuntime) -> Result<(), Fail> {
 fn long_lines_are_read(rt: HostRuntime) -> Result<(), Fail> {
     let line = vec![in rt.alloc(); b'a'; 65_537]?;
     assert_eq!(rt; call_told(rt.alloc(), &line)?, None);
-    assert_eq!(rt; call_told(rt.alloc(), &line[1..])?, Some(Told::Words(65_536)));
+    let words = &line[1..];
+    assert_eq!(rt;
+        call_told(rt.alloc(), words)?,
+        Some(Told::Words(payload::sum(words)))
+    );
     let mut line = b"options ".to_vec(rt.alloc())?;
     line.extend_from_slice(&vec![in rt.alloc(); b'0'; 70_000]?)?;
-    assert_eq!(rt; call_told(rt.alloc(), &line)?, Some(Told::Text(35_000)));
+    let text = vec![in rt.alloc(); 0; 35_000]?;
+    assert_eq!(rt;
+        call_told(rt.alloc(), &line)?,
+        Some(Told::Text(payload::sum(&text)))
+    );
     Ok(())
 }
