@@ -1,11 +1,12 @@
-// What no contract says of whole lines: that a call succeeds, and what is handed to a closure.
+// What no contract says of whole lines and their option texts: that a call succeeds, what is handed to a closure, when output is flushed, and that a failure is
+// told.
 use crate::{calls, hex, lines, payload};
 use std::alloc::{AllocError, Global};
 use std::io;
 use std::io::{ErrorKind, Read, Write};
 use std::test::Fail;
 
-// The first is the test vector of RFC 4648, section 10, in small letters.
+// The first two are test vectors of RFC 4648, section 10, in small letters.
 #[test]
 fn texts_are_decoded(rt: HostRuntime) -> Result<(), Fail> {
     let cases = [
@@ -45,7 +46,7 @@ fn lines_are_whole(rt: HostRuntime) -> Result<(), Fail> {
     Ok(())
 }
 
-// Writes a line and what ends it here.
+// Writes a line and a semicolon behind it.
 fn echo<W: Write>(line: &[u8], out: &mut W) -> io::Result<()> {
     out.write_all(line)?;
     out.write_all(b";")
@@ -69,38 +70,67 @@ fn lines_are_answered(rt: HostRuntime) -> Result<(), Fail> {
 
 #[test]
 fn calls_are_answered(rt: HostRuntime) -> Result<(), Fail> {
-    let input = b"ab\n\nlast".as_slice();
+    let bytes = four_lines(rt.alloc(), b"\n")?;
     let mut out = Vec::new(rt.alloc());
-    lines::answer_calls(rt.alloc(), input, &mut out, |line, out| {
+    lines::answer_calls(rt.alloc(), bytes.as_slice(), &mut out, |line, out| {
         echo(line, out)?;
         Ok(!line.is_empty())
     })?;
-    assert_eq!(rt; out.as_slice(), b"ab;\n;bad line\nlast;\n".as_slice());
+    let mut want = b"ab;\n;bad line\n".to_vec(rt.alloc())?;
+    want.extend_from_slice(&vec![in rt.alloc(); b'c'; 70_000]?)?;
+    want.extend_from_slice(b";\nlast;\n")?;
+    assert_eq!(rt; out, want);
     Ok(())
 }
 
-// Input that fails behind a line and a half.
+#[test]
+fn many_lines_are_answered(rt: HostRuntime) -> Result<(), Fail> {
+    let bytes = vec![in rt.alloc(); b'\n'; 10_000]?;
+    let mut out = Vec::new(rt.alloc());
+    lines::answer_lines(
+        rt.alloc(),
+        bytes.as_slice(),
+        &mut out,
+        |line, out| echo(line, out),
+    )?;
+    assert_eq!(rt; out, vec![in rt.alloc(); b';'; 10_000]?);
+    Ok(())
+}
+
+// Input that fails behind three lines and a half, which it gives in two parts.
 #[derive(Drop)]
 struct Failing {
-    has_given: bool,
+    part: u32,
 }
 
 impl Read for Failing {
     fn read(&mut self, buf: &mut [u8]) -> io::Result<usize> {
-        if self.has_given {
-            return Err(ErrorKind::BrokenPipe.into());
-        }
-        self.has_given = true;
-        let mut given = b"ab\nla".as_slice();
+        let mut given = match self.part {
+            0 => b"ab\ncd\n".as_slice(),
+            1 => b"ef\nla".as_slice(),
+            _ => return Err(ErrorKind::BrokenPipe.into()),
+        };
+        self.part += 1;
         given.read(buf)
     }
 }
 
-// Output that counts its bytes, and of them those that were written on.
+// Output that counts its bytes and its flushes, and how many bytes there were at the last of these.
 #[derive(Clone, Copy, Debug, PartialEq, Eq)]
 struct Counted {
     bytes: u64,
     flushed: u64,
+    flushes: u64,
+}
+
+impl Counted {
+    fn new() -> Self {
+        Counted {
+            bytes: 0,
+            flushed: 0,
+            flushes: 0,
+        }
+    }
 }
 
 impl Write for Counted {
@@ -111,27 +141,62 @@ impl Write for Counted {
 
     fn flush(&mut self) -> io::Result<()> {
         self.flushed = self.bytes;
+        self.flushes = self.flushes.saturating_add(1);
         Ok(())
     }
 }
 
-// The line before the failure is answered, and written on before more input is waited for.
+fn kind_of(told: io::Result<()>) -> Option<ErrorKind> {
+    told.err().map(|error| error.kind())
+}
+
+// The lines before the failure are answered, and flushed where more input is waited for: behind the second line and behind the third.
 #[test]
 fn failures_are_told(rt: HostRuntime) {
-    let mut out = Counted {
-        bytes: 0,
-        flushed: 0,
-    };
-    let input = Failing { has_given: false };
+    let mut out = Counted::new();
+    let input = Failing { part: 0 };
     let told = lines::answer_lines(rt.alloc(), input, &mut out, |line, out| echo(line, out));
-    assert!(rt; told.is_err());
+    assert_eq!(rt; kind_of(told), Some(ErrorKind::BrokenPipe));
     assert_eq!(rt;
         out,
         Counted {
-            bytes: 3,
-            flushed: 3
+            bytes: 9,
+            flushed: 9,
+            flushes: 2
         }
     );
+}
+
+#[test]
+fn failures_of_calls_are_told(rt: HostRuntime) {
+    let mut out = Counted::new();
+    let input = Failing { part: 0 };
+    let told = lines::answer_calls(rt.alloc(), input, &mut out, |line, out| {
+        echo(line, out)?;
+        Ok(true)
+    });
+    assert_eq!(rt; kind_of(told), Some(ErrorKind::BrokenPipe));
+    assert_eq!(rt;
+        out,
+        Counted {
+            bytes: 12,
+            flushed: 12,
+            flushes: 2
+        }
+    );
+}
+
+// An answer that fails is the last.
+#[test]
+fn failed_answers_are_told(rt: HostRuntime) {
+    let mut out = Counted::new();
+    let input = b"ab\ncd\n".as_slice();
+    let told = lines::answer_lines(rt.alloc(), input, &mut out, |line, out| {
+        echo(line, out)?;
+        Err(ErrorKind::BrokenPipe.into())
+    });
+    assert_eq!(rt; kind_of(told), Some(ErrorKind::BrokenPipe));
+    assert_eq!(rt; out.bytes, 3);
 }
 
 // A call is told by the sum of its option text, or of its line.
@@ -157,6 +222,8 @@ fn calls_are_read(rt: HostRuntime) -> Result<(), Fail> {
         ("options ", Some(Told::Text(payload::sum(b"")))),
         ("options 666f6", None),
         ("options", Some(Told::Words(payload::sum(b"options")))),
+        ("options 66 6f", None),
+        ("option 66", Some(Told::Words(payload::sum(b"option 66")))),
         ("rebind 0", Some(Told::Words(payload::sum(b"rebind 0")))),
     ];
     for (line, call) in cases {
