@@ -94,7 +94,7 @@ fn answer_call<W: Write, F: FnMut(&[u8], &mut W) -> io::Result<bool>>(
     writeln!(out)
 }
 
-// Puts the next line into `line`, without its line feed, and says whether there is one.
+// As `next_line`, of the bytes of a line that are kept and of what is known of those behind them.
 pub fn next_kept_line<R: BufRead>(input: &mut R, line: &mut Line) -> io::Result<bool>
     ensures line { IfOk result (λ there. IfSome (R.remaining input.old) (λ bytes. (there ≡ has_line bytes) × (known_of line.new ≡ with_bytes nothing_known (line_of bytes)))) }
     ensures rest { OnOk result (DropsThrough (R.remaining input.old) (R.remaining input.new) line_feed) }
@@ -114,7 +114,7 @@ pub fn next_kept_line<R: BufRead>(input: &mut R, line: &mut Line) -> io::Result<
     Err(ErrorKind::TimedOut.into())
 }
 
-// Has each line of the input answered; what is answered is written before more input is waited for.
+// As `answer_lines`, of lines of which the first bytes are kept; a read that fails is the end of the input.
 pub fn answer_kept_lines<R: Read + Drop, W: Write, F: FnMut(&Line, &mut W) -> io::Result<()>>(
     alloc: Global,
     input: R,
@@ -138,7 +138,7 @@ pub fn answer_kept_lines<R: Read + Drop, W: Write, F: FnMut(&Line, &mut W) -> io
     out.flush()
 }
 
-// Has each line answered, by "bad line" where the closure says that it is no call, and ends each answer with a line feed.
+// As `answer_calls`, of lines of which the first bytes are kept.
 pub fn answer_kept_calls<R: Read + Drop, W: Write, F: FnMut(&Line, &mut W) -> io::Result<bool>>(
     alloc: Global,
     input: R,
@@ -157,7 +157,7 @@ pub fn answer_kept_calls<R: Read + Drop, W: Write, F: FnMut(&Line, &mut W) -> io
     )
 }
 
-// Answers one line. A function of its own: written in the closure above, the proof of its borrows does not close.
+// Answers one line, as `answer_call` does.
 fn answer_kept_call<W: Write, F: FnMut(&Line, &mut W) -> io::Result<bool>>(
     line: &Line,
     out: &mut W,
